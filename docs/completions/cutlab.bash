@@ -8,20 +8,20 @@ _cutlab() {
     return
   fi
   case $before in
-    --checkpoint) mapfile -t COMPREPLY < <(compgen -f -- "$current"); return ;;
+    --checkpoint | --plan) mapfile -t COMPREPLY < <(compgen -f -- "$current"); return ;;
     --dir) mapfile -t COMPREPLY < <(compgen -d -- "$current"); return ;;
     --piece | --workers | --sessions | --studies) return ;;
   esac
   case $command in
-    run) mapfile -t COMPREPLY < <(compgen -W "--piece --workers --checkpoint --progress --help" -- "$current") ;;
-    check) mapfile -t COMPREPLY < <(compgen -W "--help" -- "$current") ;;
-    explain) mapfile -t COMPREPLY < <(compgen -W "--help" -- "$current") ;;
-    canonical) mapfile -t COMPREPLY < <(compgen -W "--help" -- "$current") ;;
+    run) mapfile -t COMPREPLY < <(compgen -f -W "--piece --workers --checkpoint --progress --help" -- "$current") ;;
+    check) mapfile -t COMPREPLY < <(compgen -f -W "--help" -- "$current") ;;
+    explain) mapfile -t COMPREPLY < <(compgen -f -W "--help" -- "$current") ;;
+    canonical) mapfile -t COMPREPLY < <(compgen -f -W "--help" -- "$current") ;;
     status) mapfile -t COMPREPLY < <(compgen -f -W "--help" -- "$current") ;;
     serve) mapfile -t COMPREPLY < <(compgen -f -W "--workers --sessions --studies --dir --help" -- "$current") ;;
-    ask) mapfile -t COMPREPLY < <(compgen -f -W "--help" -- "$current") ;;
-    migrate) mapfile -t COMPREPLY < <(compgen -f -W "--help" -- "$current") ;;
-    share) mapfile -t COMPREPLY < <(compgen -f -W "--piece --workers --progress --help" -- "$current") ;;
+    ask) mapfile -t COMPREPLY < <(compgen -f -W "--plan --help" -- "$current") ;;
+    migrate) mapfile -t COMPREPLY < <(compgen -f -W "--plan --help" -- "$current") ;;
+    share) mapfile -t COMPREPLY < <(compgen -f -W "--piece --workers --progress --plan --help" -- "$current") ;;
     join) mapfile -t COMPREPLY < <(compgen -f -W "--which --help" -- "$current") ;;
     help) mapfile -t COMPREPLY < <(compgen -W "run check explain canonical status serve ask migrate share join" -- "$current") ;;
   esac

@@ -15,16 +15,20 @@ complete -c cutlab -n __fish_use_subcommand -a share -d 'Run a share of a plan\'
 complete -c cutlab -n __fish_use_subcommand -a join -d 'Join the checkpoints of a plan\'s study in a new one, and print how many slips it has'
 complete -c cutlab -n __fish_use_subcommand -a help -d 'Print the help of a command'
 
+complete -c cutlab -n '__fish_seen_subcommand_from run' -F
 complete -c cutlab -n '__fish_seen_subcommand_from run' -l piece -x -d 'How many trials are run as one piece, from 1 to 1000000'
 complete -c cutlab -n '__fish_seen_subcommand_from run' -l workers -x -d 'How many threads work on the study, from 1 to 64'
 complete -c cutlab -n '__fish_seen_subcommand_from run' -l checkpoint -r -F -d 'Keep the study in this file, and go on from what it holds'
 complete -c cutlab -n '__fish_seen_subcommand_from run' -l progress -d 'Say on standard error, at most once a second, how many trials are done'
 complete -c cutlab -n '__fish_seen_subcommand_from run' -l help -d 'Print help'
 
+complete -c cutlab -n '__fish_seen_subcommand_from check' -F
 complete -c cutlab -n '__fish_seen_subcommand_from check' -l help -d 'Print help'
 
+complete -c cutlab -n '__fish_seen_subcommand_from explain' -F
 complete -c cutlab -n '__fish_seen_subcommand_from explain' -l help -d 'Print help'
 
+complete -c cutlab -n '__fish_seen_subcommand_from canonical' -F
 complete -c cutlab -n '__fish_seen_subcommand_from canonical' -l help -d 'Print help'
 
 complete -c cutlab -n '__fish_seen_subcommand_from status' -F
@@ -38,15 +42,18 @@ complete -c cutlab -n '__fish_seen_subcommand_from serve' -l dir -r -a '(__fish_
 complete -c cutlab -n '__fish_seen_subcommand_from serve' -l help -d 'Print help'
 
 complete -c cutlab -n '__fish_seen_subcommand_from ask' -F
+complete -c cutlab -n '__fish_seen_subcommand_from ask' -l plan -r -F -d 'The file that the plan is read from, in place of standard input'
 complete -c cutlab -n '__fish_seen_subcommand_from ask' -l help -d 'Print help'
 
 complete -c cutlab -n '__fish_seen_subcommand_from migrate' -F
+complete -c cutlab -n '__fish_seen_subcommand_from migrate' -l plan -r -F -d 'The file that the plan is read from, in place of standard input'
 complete -c cutlab -n '__fish_seen_subcommand_from migrate' -l help -d 'Print help'
 
 complete -c cutlab -n '__fish_seen_subcommand_from share' -F
 complete -c cutlab -n '__fish_seen_subcommand_from share' -l piece -x -d 'How many trials are run as one piece, from 1 to 1000000'
 complete -c cutlab -n '__fish_seen_subcommand_from share' -l workers -x -d 'How many threads work on the study, from 1 to 64'
 complete -c cutlab -n '__fish_seen_subcommand_from share' -l progress -d 'Say on standard error, at most once a second, how many trials are done'
+complete -c cutlab -n '__fish_seen_subcommand_from share' -l plan -r -F -d 'The file that the plan is read from, in place of standard input'
 complete -c cutlab -n '__fish_seen_subcommand_from share' -l help -d 'Print help'
 
 complete -c cutlab -n '__fish_seen_subcommand_from join' -F

@@ -50,6 +50,7 @@ fn run_share<G: Gate + Sync, R: Threads + Wait + Sync>(
         workers: 2,
         gate,
         file: FILE,
+        plan: None,
     };
     share(files, rt, alloc, wire, work)
 }
@@ -58,6 +59,40 @@ fn run_share<G: Gate + Sync, R: Threads + Wait + Sync>(
 fn wire_of(alloc: Global, room: usize) -> Result<FaultyWire, AllocError> {
     let input = Vec::from_slice(alloc, PLAN.as_bytes())?;
     Ok(FaultyWire::new(alloc, input, 4096, room, 0))
+}
+
+/// The share by two workers, whose plan is read from a file.
+fn planned_share(plan: &'static str) -> Option<ShareWork<'static, OpenGate>> {
+    Some(ShareWork {
+        share: Share::new(2, 3, 2)?,
+        workers: 2,
+        gate: &OpenGate,
+        file: FILE,
+        plan: Some(plan),
+    })
+}
+
+/// Whether the share of the plan in a file is kept, and a file that is not there ends it with its fault, the disk untouched.
+fn is_planned<R: Threads + Wait + Sync>(rt: &R, alloc: Global) -> Result<bool, Fail> {
+    let (Some(work), Some(other)) = (planned_share("plan.json"), planned_share("none.json")) else {
+        return Ok(false);
+    };
+    let mut files = MemoryFiles::new(alloc);
+    let text = Vec::from_slice(alloc, PLAN.as_bytes())?;
+    files.put("plan.json", FaultyDisk::of(alloc, text, 0, Tear::Nothing)?)?;
+    let mut wire = FaultyWire::new(alloc, Vec::new(alloc), 4096, 100, 1);
+    let ended = share(&mut files, rt, alloc, &mut wire, other);
+    let is_refused = matches!(ended, Err(CliFault::Journal(JournalFault::Disk)));
+    let is_untouched = files.read(alloc, FILE)?.is_empty();
+    share(&mut files, rt, alloc, &mut wire, work)?;
+    Ok(is_refused && is_untouched && wire.taken() == LINE)
+}
+
+// The wire fails at its first read, which does not come.
+#[test]
+fn the_plan_of_a_share_is_read_from_a_file(rt: HostRuntime) -> Result<(), Fail> {
+    assert!(rt; is_planned(&rt, rt.alloc())?);
+    Ok(())
 }
 
 /// Whether the file has slips of the share's pieces, and no others.

@@ -236,7 +236,7 @@ asks : (result : Result ⊤ AskFault) (text : List ℕ) (old new : WireLog) → 
     → Answered text result (read_on text true old) new
     → ((server : WireLog) → Hears text result unknown server (read_on text true old) new
     → Asks text result unknown server (read_on text true old) new)
-    → (server : WireLog) × AsksText result old new unknown server
+    → (server : WireLog) × AsksText None result old new unknown server
 asks result text old new short answered is = (
   answered.0,
   record {
@@ -247,8 +247,8 @@ asks result text old new short answered is = (
   },
 )
 
-over_server : (fault : AskFault) (old new : WireLog) → ConveysPartly fault old new
-    → (server : WireLog) × AsksText (Err fault) old new unknown server
+over_server : (fault : AskFault) (old new : WireLog) → ConveysPartly None fault old new
+    → (server : WireLog) × AsksText None (Err fault) old new unknown server
 over_server ask.PlanTooLong old new is = (
   unknown,
   record {

@@ -1,5 +1,5 @@
 -- What is said where nothing is known of a server, and what is said over the wire of some server, is the same.
-use Rattle.std.specs.Prelude.{◌≡◌, ◌⊎◌, Result, Err, ⊤}
+use Rattle.std.specs.Prelude.{◌≡◌, ◌⊎◌, None, Result, Err, ⊤}
 use Rattle.cut_wires.specs.Log.{WireLog}
 use Rattle.cut_commands.specs.Ask.{AsksFor, EndsAsk}
 use Rattle.cut_commands.specs.declared.fault.CliFault.{CliFault}
@@ -15,4 +15,4 @@ AsksSomeServer old new result =
 -- whatever bytes are written, there is an answer of which they are the lines
 abbrev pub BytesAreLinesOfAnAnswer : Type 0
 BytesAreLinesOfAnAnswer =
-    (result : Result ⊤ CliFault) (old new : WireLog) → EndsAsk old new result → AsksSomeServer old new result
+    (result : Result ⊤ CliFault) (old new : WireLog) → EndsAsk None old new result → AsksSomeServer old new result

@@ -1,9 +1,11 @@
 -- The values that a job of a command has.
-use Rattle.std.proofs.Common.{◌≡◌, ℕ, List, Some, map, sym, ap, subst, codes}
+use Rattle.std.proofs.Common.{◌≡◌, ◌≤◌, ℕ, Bor, List, Some, length, map, sym, ap, subst, codes, arith}
+use Rattle.std.proofs.lemmas.List.{length-map}
 use Rattle.std.specs.Prelude.{⊤, if◌then◌else◌}
 use Rattle.std.specs.Str.{bytes_eq}
 use Rattle.clap.specs.Words.{Row, Text, all_of, first_of}
-use Rattle.cut_options.specs.declared.limits.TheConstants.{LARGEST_PIECE, MOST_OF_EACH, MOST_WORKERS}
+use Rattle.cut_options.specs.declared.limits.TheConstants.{LARGEST_PIECE, MOST_CHECKPOINTS, MOST_OF_EACH}
+use Rattle.cut_options.specs.declared.limits.TheConstants.{MOST_WORKERS}
 use Rattle.cut_command_line.specs.declared.line.Job.{Job}
 use Rattle.cut_command_line.specs.declared.line.Job.TheVariants.{Run, Check, Explain, Canonical, Status, Serve}
 use Rattle.cut_command_line.specs.declared.line.Job.TheVariants.{Ask, Migrate, Share, Join}
@@ -24,15 +26,15 @@ pub data Verb : Type 0 where
 
 -- the command of a job
 abbrev pub verb_of : Job → Verb
-verb_of (Run piece workers file progress) = to_run
-verb_of Check = to_check
-verb_of Explain = to_explain
-verb_of Canonical = to_canonical
+verb_of (Run piece workers file progress plan) = to_run
+verb_of (Check plan) = to_check
+verb_of (Explain plan) = to_explain
+verb_of (Canonical plan) = to_canonical
 verb_of (Status file) = to_status
 verb_of (Serve socket workers sessions studies folder) = to_serve
-verb_of (Ask socket) = to_ask
-verb_of (Migrate from to) = to_migrate
-verb_of (Share index shares file piece workers progress) = to_share
+verb_of (Ask socket plan) = to_ask
+verb_of (Migrate from to plan) = to_migrate
+verb_of (Share index shares file piece workers progress plan) = to_share
 verb_of (Join to from which) = to_join
 
 -- the command of a name
@@ -51,15 +53,15 @@ verb_in name =
 
 -- a job that the command of a name asks for is of that command
 pub is_of : (name : Text) (rows : List Row) (job : Job) → AsksForJob name rows job → verb_of job ≡ verb_in name
-is_of name rows (Run piece workers file progress) asks = sym (ap verb_in asks.0)
-is_of name rows Check asks = sym (ap verb_in asks)
-is_of name rows Explain asks = sym (ap verb_in asks)
-is_of name rows Canonical asks = sym (ap verb_in asks)
+is_of name rows (Run piece workers file progress plan) asks = sym (ap verb_in asks.0)
+is_of name rows (Check plan) asks = sym (ap verb_in asks.0)
+is_of name rows (Explain plan) asks = sym (ap verb_in asks.0)
+is_of name rows (Canonical plan) asks = sym (ap verb_in asks.0)
 is_of name rows (Status file) asks = sym (ap verb_in asks.0)
 is_of name rows (Serve socket workers sessions studies folder) asks = sym (ap verb_in asks.0)
-is_of name rows (Ask socket) asks = sym (ap verb_in asks.0)
-is_of name rows (Migrate from to) asks = sym (ap verb_in asks.0)
-is_of name rows (Share index shares file piece workers progress) asks = sym (ap verb_in asks.0)
+is_of name rows (Ask socket plan) asks = sym (ap verb_in asks.0)
+is_of name rows (Migrate from to plan) asks = sym (ap verb_in asks.0)
+is_of name rows (Share index shares file piece workers progress plan) asks = sym (ap verb_in asks.0)
 is_of name rows (Join to from which) asks = sym (ap verb_in asks.0)
 
 -- what is given with a command
@@ -86,21 +88,25 @@ Values to_share rows =
     × ((n : ℕ) × GivesNumber (codes "workers") MOST_WORKERS rows n)
 Values to_join rows =
     ((path : Text) × (first_of (codes "new") rows ≡ Some path))
-    × ((paths : List Text) × (all_of (codes "old") rows ≡ Some paths))
+    × ((paths : List Text) × ((all_of (codes "old") rows ≡ Some paths) × (length paths ≤ MOST_CHECKPOINTS)))
+
+few_texts : (files : List (Bor Text)) → length files ≤ MOST_CHECKPOINTS → length (map (λ s. s.now) files) ≤ MOST_CHECKPOINTS
+few_texts files few = omega (arith, few, length-map files (λ s. s.now))
 
 values_of : (name : Text) (rows : List Row) (job : Job) → AsksForJob name rows job → Values (verb_of job) rows
-values_of name rows (Run piece workers file progress) asks = ((piece, asks.1), (workers, asks.2))
-values_of name rows Check asks = tt
-values_of name rows Explain asks = tt
-values_of name rows Canonical asks = tt
+values_of name rows (Run piece workers file progress plan) asks = ((piece, asks.1), (workers, asks.2))
+values_of name rows (Check plan) asks = tt
+values_of name rows (Explain plan) asks = tt
+values_of name rows (Canonical plan) asks = tt
 values_of name rows (Status file) asks = (file.now, asks.1)
 values_of name rows (Serve socket workers sessions studies folder) asks =
     ((socket.now, asks.1), (workers, asks.2), (sessions, asks.3), (studies, asks.4))
-values_of name rows (Ask socket) asks = (socket.now, asks.1)
-values_of name rows (Migrate from to) asks = ((from.now, asks.1), (to.now, asks.2))
-values_of name rows (Share index shares file piece workers progress) asks =
+values_of name rows (Ask socket plan) asks = (socket.now, asks.1)
+values_of name rows (Migrate from to plan) asks = ((from.now, asks.1), (to.now, asks.2))
+values_of name rows (Share index shares file piece workers progress plan) asks =
     ((index, (shares, asks.1)), (file.now, asks.2), (piece, asks.3), (workers, asks.4))
-values_of name rows (Join to from which) asks = ((to.now, asks.1), (map (λ s. s.now) from.items, asks.2))
+values_of name rows (Join to from which) asks =
+    ((to.now, asks.1), (map (λ s. s.now) from.items, (asks.2, few_texts from.items asks.3)))
 
 -- a job that a command asks for has what is given with it
 pub values : (name : Text) (rows : List Row) (job : Job) → AsksForJob name rows job → Values (verb_in name) rows

@@ -1,8 +1,10 @@
 -- What the program's command line asks for.
-use Rattle.std.specs.Prelude.{◌≡◌, ◌⊎◌, ◌≤◌, ◌++◌, ℕ, Bool, List, [], true, false, codes}
-use Rattle.std.specs.Prelude.{Some, None, option_map, map, ⊤}
+use Rattle.std.specs.Prelude.{◌≡◌, ◌⊎◌, ◌≤◌, ◌++◌, ℕ, Bool, List, [], true, false, length, codes}
+use Rattle.std.specs.Prelude.{Option, Some, None, option_map, map, ⊤}
+use Rattle.std.specs.Borrow.{Bor}
 use Rattle.std.specs.Str.Parse.{IsNumeral, digits_value, without_leading_plus}
-use Rattle.cut_options.specs.declared.limits.TheConstants.{LARGEST_PIECE, MOST_OF_EACH, MOST_SHARES, MOST_WORKERS}
+use Rattle.cut_options.specs.declared.limits.TheConstants.{LARGEST_PIECE, MOST_CHECKPOINTS, MOST_OF_EACH}
+use Rattle.cut_options.specs.declared.limits.TheConstants.{MOST_SHARES, MOST_WORKERS}
 use Rattle.cut_options.specs.Options.{program_app}
 use Rattle.clap.specs.Words.{IsAmong, all_of, first_of, Row, Text, fault_of, one_of, subcommand_of}
 use Rattle.clap.specs.declared.error.kind.ErrorKind.{ErrorKind}
@@ -47,15 +49,20 @@ pub record GivesShare (rows : List Row) (index shares : ℕ) : Type 0 where
   pub shares_are : IsDigitsIn MOST_SHARES second shares
   pub within : index ≤ shares
 
+-- the file of the plan that they give, if they give one
+abbrev pub GivesPlan : List Row → Option (Bor Text) → Type 0
+GivesPlan rows plan = first_of (codes "plan") rows ≡ option_map (λ s. s.now) plan
+
 -- a subcommand, by its name and its matches, asks for a job
 abbrev pub AsksForJob : Text → List Row → Job → Type 0
-AsksForJob name rows (Run piece workers file progress) =
+AsksForJob name rows (Run piece workers file progress plan) =
     (name ≡ codes "run") × GivesNumber (codes "piece") LARGEST_PIECE rows piece
     × GivesNumber (codes "workers") MOST_WORKERS rows workers
     × (first_of (codes "checkpoint") rows ≡ option_map (λ s. s.now) file) × GivesFlag (codes "progress") rows progress
-AsksForJob name rows Check = name ≡ codes "check"
-AsksForJob name rows Explain = name ≡ codes "explain"
-AsksForJob name rows Canonical = name ≡ codes "canonical"
+    × GivesPlan rows plan
+AsksForJob name rows (Check plan) = (name ≡ codes "check") × GivesPlan rows plan
+AsksForJob name rows (Explain plan) = (name ≡ codes "explain") × GivesPlan rows plan
+AsksForJob name rows (Canonical plan) = (name ≡ codes "canonical") × GivesPlan rows plan
 AsksForJob name rows (Status file) = (name ≡ codes "status") × (first_of (codes "file") rows ≡ Some file.now)
 AsksForJob name rows (Serve socket workers sessions studies folder) =
     (name ≡ codes "serve") × (first_of (codes "socket") rows ≡ Some socket.now)
@@ -63,17 +70,19 @@ AsksForJob name rows (Serve socket workers sessions studies folder) =
     × GivesNumber (codes "sessions") MOST_OF_EACH rows sessions
     × GivesNumber (codes "studies") MOST_OF_EACH rows studies
     × (first_of (codes "dir") rows ≡ option_map (λ s. s.now) folder)
-AsksForJob name rows (Ask socket) = (name ≡ codes "ask") × (first_of (codes "socket") rows ≡ Some socket.now)
-AsksForJob name rows (Migrate from to) =
+AsksForJob name rows (Ask socket plan) = (name ≡ codes "ask") × (first_of (codes "socket") rows ≡ Some socket.now)
+    × GivesPlan rows plan
+AsksForJob name rows (Migrate from to plan) =
     (name ≡ codes "migrate") × (first_of (codes "old") rows ≡ Some from.now)
-    × (first_of (codes "new") rows ≡ Some to.now)
-AsksForJob name rows (Share index shares file piece workers progress) =
+    × (first_of (codes "new") rows ≡ Some to.now) × GivesPlan rows plan
+AsksForJob name rows (Share index shares file piece workers progress plan) =
     (name ≡ codes "share") × GivesShare rows index shares × (first_of (codes "file") rows ≡ Some file.now)
     × GivesNumber (codes "piece") LARGEST_PIECE rows piece × GivesNumber (codes "workers") MOST_WORKERS rows workers
-    × GivesFlag (codes "progress") rows progress
+    × GivesFlag (codes "progress") rows progress × GivesPlan rows plan
 AsksForJob name rows (Join to from which) =
     (name ≡ codes "join") × (first_of (codes "new") rows ≡ Some to.now)
-    × (all_of (codes "old") rows ≡ Some (map (λ s. s.now) from.items)) × GivesFlag (codes "which") rows which
+    × (all_of (codes "old") rows ≡ Some (map (λ s. s.now) from.items)) × (length from.items ≤ MOST_CHECKPOINTS)
+    × GivesFlag (codes "which") rows which
 
 -- the job that a command line names
 abbrev pub NamesJob : List Text → Job → Type 0
@@ -102,18 +111,18 @@ EndsLine words status text =
 
 -- the pieces of a job have some trials, and it has some of each that it is to have, and no more than the options allow
 abbrev pub IsSizedJob : Job → Type 0
-IsSizedJob (Run piece workers file progress) =
+IsSizedJob (Run piece workers file progress plan) =
     (1 ≤ piece) × (piece ≤ LARGEST_PIECE) × (1 ≤ workers) × (workers ≤ MOST_WORKERS)
-IsSizedJob Check = ⊤
-IsSizedJob Explain = ⊤
-IsSizedJob Canonical = ⊤
+IsSizedJob (Check plan) = ⊤
+IsSizedJob (Explain plan) = ⊤
+IsSizedJob (Canonical plan) = ⊤
 IsSizedJob (Status file) = ⊤
 IsSizedJob (Serve socket workers sessions studies folder) =
     (1 ≤ workers) × (workers ≤ MOST_OF_EACH) × (1 ≤ sessions) × (sessions ≤ MOST_OF_EACH) × (1 ≤ studies)
     × (studies ≤ MOST_OF_EACH)
-IsSizedJob (Ask socket) = ⊤
-IsSizedJob (Migrate from to) = ⊤
-IsSizedJob (Share index shares file piece workers progress) =
+IsSizedJob (Ask socket plan) = ⊤
+IsSizedJob (Migrate from to plan) = ⊤
+IsSizedJob (Share index shares file piece workers progress plan) =
     (1 ≤ index) × (index ≤ shares) × (shares ≤ MOST_SHARES) × (1 ≤ piece) × (piece ≤ LARGEST_PIECE) × (1 ≤ workers)
     × (workers ≤ MOST_WORKERS)
-IsSizedJob (Join to from which) = ⊤
+IsSizedJob (Join to from which) = length from.items ≤ MOST_CHECKPOINTS

@@ -1,15 +1,16 @@
 ghost use Rattle.std.specs.Prelude.{◌≡◌, ℕ, [], codes, map, string_bytes, IfOk, IfErr, IfSome, IfNone};
 ghost use Rattle.clap.specs.Words.{app_of, fault_of, found_of, rows_of, subcommand_rows_of};
 ghost use Rattle.cut_options.specs.Options.{program_app};
-ghost use Rattle.cut_command_line.specs.Line.{EndsLine, GivesFlag, GivesNumber, IsSizedJob};
+ghost use Rattle.cut_command_line.specs.Line.{EndsLine, GivesFlag, GivesNumber, GivesPlan, IsSizedJob};
 ghost use Rattle.cut_command_line.specs.inside.Line.{GivesJob, IsJobOf};
 ghost use Rattle.cut_command_line.specs.Line.{NamesJob, status_of_kind};
 ghost use Rattle.cut_command_line.specs.declared.line.Job.{Job};
 
-use crate::machines::{WRONG_SHARE, join_job, share_job};
+use crate::machines::{TOO_MANY_FILES, WRONG_SHARE, join_job, share_job};
 use clap::error::ErrorKind;
 use clap::{ArgMatches, Command, Error};
-use cut_options::{LARGEST_PIECE, MOST_OF_EACH, MOST_WORKERS, SHARE_USAGE, program_commands};
+use cut_options::{JOIN_USAGE, SHARE_USAGE, program_commands};
+use cut_options::{LARGEST_PIECE, MOST_OF_EACH, MOST_WORKERS};
 use std::alloc::{AllocError, Global};
 use std::convert::AsStr;
 
@@ -26,13 +27,24 @@ pub enum Job<'a> {
         checkpoint: Option<&'a str>,
         /// Whether lines on standard error say how many trials are done.
         progress: bool,
+        /// The file that the plan is read from, if it is not the program's input.
+        plan: Option<&'a str>,
     },
     /// Read a plan and print how many cells and trials it has, and the quorum of its processes.
-    Check,
+    Check {
+        /// The file that the plan is read from, if it is not the program's input.
+        plan: Option<&'a str>,
+    },
     /// Read a plan and say in words what is right or wrong with it.
-    Explain,
+    Explain {
+        /// The file that the plan is read from, if it is not the program's input.
+        plan: Option<&'a str>,
+    },
     /// Read a plan and print its canonical text.
-    Canonical,
+    Canonical {
+        /// The file that the plan is read from, if it is not the program's input.
+        plan: Option<&'a str>,
+    },
     /// Print what a checkpoint holds.
     Status {
         /// The file of the checkpoint, which is only read.
@@ -55,6 +67,8 @@ pub enum Job<'a> {
     Ask {
         /// The path of the server's socket.
         socket: &'a str,
+        /// The file that the plan is read from, if it is not the program's input.
+        plan: Option<&'a str>,
     },
     /// Read a plan of version 1, move its study to a new checkpoint of version 2, and print how many slips it has.
     Migrate {
@@ -62,6 +76,8 @@ pub enum Job<'a> {
         old: &'a str,
         /// The file that it is moved to, which holds no study.
         new: &'a str,
+        /// The file that the plan is read from, if it is not the program's input.
+        plan: Option<&'a str>,
     },
     /// Read a plan, run a share of its study, and print how many trials the share has.
     Share {
@@ -77,6 +93,8 @@ pub enum Job<'a> {
         workers: u32,
         /// Whether lines on standard error say how many trials are done.
         progress: bool,
+        /// The file that the plan is read from, if it is not the program's input.
+        plan: Option<&'a str>,
     },
     /// Read a plan, join the checkpoints of its study in a new one, and print how many slips it has.
     Join {
@@ -131,18 +149,22 @@ fn job_by<'a, S: AsStr>(
     };
     match job_of(alloc, &matches) {
         Ok(Some(job)) => Ok(job),
-        Ok(None) => Err(wrong_value(alloc)),
+        Ok(None) => Err(wrong_value(alloc, &matches)),
         Err(_) => Err(line_fault(alloc, ErrorKind::OutOfMemory, None)),
     }
 }
 
-/// The fault of a command line in which clap found nothing, but a value that is none, which only a share can be.
-fn wrong_value(alloc: Global) -> LineFault
+/// The fault of a command line in which clap found nothing, but a value that is none: a share, or one file too many.
+fn wrong_value(alloc: Global, matches: &ArgMatches) -> LineFault
     ensures status { result.status ≡ status_of_kind ErrorKind.ValueValidation }
     ensures text { ErrorKind.ValueValidation ≡ ErrorKind.OutOfMemory → string_bytes result.text ≡ [] }
 {
-    let mut share = Command::new(alloc, "share").override_usage(SHARE_USAGE);
-    let error = share.error(ErrorKind::ValueValidation, WRONG_SHARE).ok();
+    let (name, usage, wrong) = match matches.subcommand_name() {
+        Some("join") => ("join", JOIN_USAGE, TOO_MANY_FILES),
+        _ => ("share", SHARE_USAGE, WRONG_SHARE),
+    };
+    let mut command = Command::new(alloc, name).override_usage(usage);
+    let error = command.error(ErrorKind::ValueValidation, wrong).ok();
     line_fault(alloc, ErrorKind::ValueValidation, error.as_ref())
 }
 
@@ -170,9 +192,15 @@ fn named_job<'a>(name: &str, given: &ArgMatches<'a>) -> Option<Job<'a>>
 {
     match name {
         "run" => run_job(given),
-        "check" => Some(Job::Check),
-        "explain" => Some(Job::Explain),
-        "canonical" => Some(Job::Canonical),
+        "check" => Some(Job::Check {
+            plan: plan_given(given),
+        }),
+        "explain" => Some(Job::Explain {
+            plan: plan_given(given),
+        }),
+        "canonical" => Some(Job::Canonical {
+            plan: plan_given(given),
+        }),
         "status" => status_job(given),
         "serve" => serve_job(given),
         "ask" => ask_job(given),
@@ -194,6 +222,7 @@ fn run_job<'a>(given: &ArgMatches<'a>) -> Option<Job<'a>>
         workers,
         checkpoint: given.get_str("checkpoint"),
         progress: flag_given(given, "progress"),
+        plan: plan_given(given),
     })
 }
 
@@ -230,7 +259,10 @@ fn ask_job<'a>(given: &ArgMatches<'a>) -> Option<Job<'a>>
     ensures sized { IfSome result (λ job. IsSizedJob job) }
 {
     let socket = given.get_str("socket")?;
-    Some(Job::Ask { socket })
+    Some(Job::Ask {
+        socket,
+        plan: plan_given(given),
+    })
 }
 
 /// The migration that the matches of `migrate` give.
@@ -240,7 +272,11 @@ fn migrate_job<'a>(given: &ArgMatches<'a>) -> Option<Job<'a>>
 {
     let old = given.get_str("old")?;
     let new = given.get_str("new")?;
-    Some(Job::Migrate { old, new })
+    Some(Job::Migrate {
+        old,
+        new,
+        plan: plan_given(given),
+    })
 }
 
 /// The number, from 1 to a greatest one, that the matches give for an option.
@@ -261,6 +297,13 @@ pub(crate) fn flag_given(given: &ArgMatches, flag: &str) -> bool
     ensures { GivesFlag flag.now (rows_of (found_of given.now)) result }
 {
     given.get_flag(flag)
+}
+
+/// The file of the plan that the matches give, if they give one.
+pub(crate) fn plan_given<'a>(given: &ArgMatches<'a>) -> Option<&'a str>
+    ensures { GivesPlan (rows_of (found_of given.now)) result }
+{
+    given.get_str("plan")
 }
 
 /// The fault of a command line in which clap found this, with clap's text where it has one. Where memory ran out the

@@ -6,14 +6,18 @@ ghost use Rattle.cut_command_line.specs.Line.{GivesShare, IsDigitsIn, IsSizedJob
 ghost use Rattle.cut_command_line.specs.inside.Line.{GivesJob};
 
 use crate::Job;
-use crate::line::{flag_given, number_given};
+use crate::line::{flag_given, number_given, plan_given};
 use clap::ArgMatches;
-use cut_options::{LARGEST_PIECE, MOST_SHARES, MOST_WORKERS};
+use cut_options::{LARGEST_PIECE, MOST_CHECKPOINTS, MOST_SHARES, MOST_WORKERS};
 use std::alloc::{AllocError, Global};
 
 /// What is wrong with a word that is no share.
 pub(crate) const WRONG_SHARE: &str =
     "the value for '<I/N>' is none: expected the number of a share, from 1, a slash, and how many shares there are, at most 100000, as in 2/8";
+
+/// What is wrong where more checkpoints are given than are joined.
+pub(crate) const TOO_MANY_FILES: &str =
+    "the values for '<OLD>...' are too many: expected at most 1000 checkpoints";
 
 /// Which share, and of how many.
 #[derive(Clone, Copy)]
@@ -38,6 +42,7 @@ pub(crate) fn share_job<'a>(given: &ArgMatches<'a>) -> Option<Job<'a>>
         piece,
         workers,
         progress: flag_given(given, "progress"),
+        plan: plan_given(given),
     })
 }
 
@@ -55,6 +60,9 @@ pub(crate) fn join_job<'a>(
     let Some(old) = given.get_strs("old") else {
         return Ok(None);
     };
+    if old.len() > MOST_CHECKPOINTS {
+        return Ok(None);
+    }
     let old = Vec::from_slice(alloc, old)?;
     Ok(Some(Job::Join {
         new,

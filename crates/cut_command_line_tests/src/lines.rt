@@ -6,73 +6,103 @@ use std::test::Fail;
 
 /// Command lines, and below each the job that it names, as a program would write it for its developers.
 const JOBS: &str = r#"cutlab run
-Run { piece: 16, workers: 1, checkpoint: None, progress: false }
+Run { piece: 16, workers: 1, checkpoint: None, progress: false, plan: None }
 
 cutlab run --piece 1
-Run { piece: 1, workers: 1, checkpoint: None, progress: false }
+Run { piece: 1, workers: 1, checkpoint: None, progress: false, plan: None }
 
 cutlab run --piece=7
-Run { piece: 7, workers: 1, checkpoint: None, progress: false }
+Run { piece: 7, workers: 1, checkpoint: None, progress: false, plan: None }
 
 cutlab run --piece +20
-Run { piece: 20, workers: 1, checkpoint: None, progress: false }
+Run { piece: 20, workers: 1, checkpoint: None, progress: false, plan: None }
 
 cutlab run --piece 1000000
-Run { piece: 1000000, workers: 1, checkpoint: None, progress: false }
+Run { piece: 1000000, workers: 1, checkpoint: None, progress: false, plan: None }
 
 cutlab run --workers 1
-Run { piece: 16, workers: 1, checkpoint: None, progress: false }
+Run { piece: 16, workers: 1, checkpoint: None, progress: false, plan: None }
 
 cutlab run --workers 64
-Run { piece: 16, workers: 64, checkpoint: None, progress: false }
+Run { piece: 16, workers: 64, checkpoint: None, progress: false, plan: None }
 
 cutlab run --workers=3 --piece 2
-Run { piece: 2, workers: 3, checkpoint: None, progress: false }
+Run { piece: 2, workers: 3, checkpoint: None, progress: false, plan: None }
 
 cutlab run --checkpoint a.cut
-Run { piece: 16, workers: 1, checkpoint: Some("a.cut"), progress: false }
+Run { piece: 16, workers: 1, checkpoint: Some("a.cut"), progress: false, plan: None }
 
 cutlab run --checkpoint=
-Run { piece: 16, workers: 1, checkpoint: Some(""), progress: false }
+Run { piece: 16, workers: 1, checkpoint: Some(""), progress: false, plan: None }
 
 cutlab run --progress --workers 2
-Run { piece: 16, workers: 2, checkpoint: None, progress: true }
+Run { piece: 16, workers: 2, checkpoint: None, progress: true, plan: None }
 
 cutlab check
-Check
+Check { plan: None }
 
 cutlab explain
-Explain
+Explain { plan: None }
 
 cutlab canonical
-Canonical
+Canonical { plan: None }
+
+cutlab run plan.json
+Run { piece: 16, workers: 1, checkpoint: None, progress: false, plan: Some("plan.json") }
+
+cutlab run plan.json --checkpoint a.cut
+Run { piece: 16, workers: 1, checkpoint: Some("a.cut"), progress: false, plan: Some("plan.json") }
+
+cutlab run -- --plan
+Run { piece: 16, workers: 1, checkpoint: None, progress: false, plan: Some("--plan") }
+
+cutlab check plan.json
+Check { plan: Some("plan.json") }
+
+cutlab explain plan.json
+Explain { plan: Some("plan.json") }
+
+cutlab canonical plan.json
+Canonical { plan: Some("plan.json") }
+
+cutlab ask --plan plan.json a.sock
+Ask { socket: "a.sock", plan: Some("plan.json") }
+
+cutlab migrate a.cut b.cut --plan plan.json
+Migrate { old: "a.cut", new: "b.cut", plan: Some("plan.json") }
+
+cutlab share 1/1 --plan=plan.json a.cut
+Share { index: 1, shares: 1, file: "a.cut", piece: 16, workers: 1, progress: false, plan: Some("plan.json") }
 
 cutlab status a.cut
 Status { file: "a.cut" }
 
 cutlab ask a.sock
-Ask { socket: "a.sock" }
+Ask { socket: "a.sock", plan: None }
 
 cutlab migrate a.cut b.cut
-Migrate { old: "a.cut", new: "b.cut" }
+Migrate { old: "a.cut", new: "b.cut", plan: None }
 
 cutlab serve a.sock --workers=64 --studies=3 --sessions=1 --dir=kept
 Serve { socket: "a.sock", workers: 64, sessions: 1, studies: 3, folder: Some("kept") }
 
 cutlab share 1/1 a.cut
-Share { index: 1, shares: 1, file: "a.cut", piece: 16, workers: 1, progress: false }
+Share { index: 1, shares: 1, file: "a.cut", piece: 16, workers: 1, progress: false, plan: None }
 
 cutlab share 3/8 a.cut --progress
-Share { index: 3, shares: 8, file: "a.cut", piece: 16, workers: 1, progress: true }
+Share { index: 3, shares: 8, file: "a.cut", piece: 16, workers: 1, progress: true, plan: None }
 
 cutlab share --piece 2 100000/100000 --workers=64 a.cut
-Share { index: 100000, shares: 100000, file: "a.cut", piece: 2, workers: 64, progress: false }
+Share { index: 100000, shares: 100000, file: "a.cut", piece: 2, workers: 64, progress: false, plan: None }
 
 cutlab join new.cut a.cut b.cut
 Join { new: "new.cut", old: ["a.cut", "b.cut"], which: false }
 
 cutlab join --which new.cut a.cut
-Join { new: "new.cut", old: ["a.cut"], which: true }"#;
+Join { new: "new.cut", old: ["a.cut"], which: true }
+
+cutlab join new.cut a.cut --which b.cut c.cut
+Join { new: "new.cut", old: ["a.cut", "b.cut", "c.cut"], which: true }"#;
 
 /// The words of a line, between blanks.
 fn words_of<'a>(alloc: Global, line: &'a str) -> Result<Vec<&'a str>, AllocError> {
@@ -109,16 +139,23 @@ fn files_joined(alloc: Global, words: &[&str]) -> usize {
     }
 }
 
+/// The words of a join of as many files, with a flag after the first of them.
+fn join_of(alloc: Global, files: usize) -> Result<Vec<&'static str>, AllocError> {
+    let mut words = Vec::from_slice(alloc, &["cutlab", "join", "new.cut", "a.cut", "--which"])?;
+    for _ in 1..files {
+        words.push("b.cut")?;
+    }
+    Ok(words)
+}
+
 // With as many files as are joined at most, and with one more.
 #[test]
 fn joins_have_a_thousand_files(rt: HostRuntime) -> Result<(), Fail> {
-    let mut words: Vec<&str> = Vec::from_slice(rt.alloc(), &["cutlab", "join", "new.cut"])?;
-    for _ in 0..1_000 {
-        words.push("a.cut")?;
-    }
-    assert!(rt; files_joined(rt.alloc(), &words) == 1_000);
-    words.push("last.cut")?;
-    assert!(rt; is_reported(rt.alloc(), &words, "2", "'last.cut'"));
+    let most = join_of(rt.alloc(), 1_000)?;
+    assert!(rt; files_joined(rt.alloc(), &most) == 1_000);
+    let more = join_of(rt.alloc(), 1_001)?;
+    let text = "too many|at most 1000|Usage: cutlab join [OPTIONS] <NEW> <OLD>... < PLAN";
+    assert!(rt; is_reported(rt.alloc(), &more, "2", text));
     Ok(())
 }
 
@@ -140,7 +177,7 @@ fn is_reported(alloc: Global, words: &[&str], wanted: &str, parts: &str) -> bool
 /// Statuses, command lines that name no job and end the program with it, and parts of the texts that are printed.
 const REPORTS: &str = "2|cutlab share 3-8 a.cut|the value for '<I/N>' is none|as in 2/8
 2|cutlab share 0/3 a.cut|the value for '<I/N>' is none|as in 2/8
-2|cutlab share 4/3 a.cut|the value for '<I/N>' is none|as in 2/8|Usage: cutlab share [OPTIONS] <I/N> <FILE> < PLAN
+2|cutlab share 4/3 a.cut|the value for '<I/N>' is none|as in 2/8|Usage: cutlab share [OPTIONS] <I/N> <FILE>
 2|cutlab share 1/100001 a.cut|the value for '<I/N>' is none|as in 2/8
 2|cutlab share 1/0 a.cut|the value for '<I/N>' is none|as in 2/8
 2|cutlab share /3 a.cut|the value for '<I/N>' is none|as in 2/8
@@ -187,7 +224,10 @@ const REPORTS: &str = "2|cutlab share 3-8 a.cut|the value for '<I/N>' is none|as
 2|cutlab run --progress=true|unexpected value 'true' for '--progress' found
 2|cutlab|Usage: cutlab <COMMAND>
 2|cutlab frob|unrecognized subcommand 'frob'
-2|cutlab run plan.json|unexpected argument 'plan.json' found|Usage: cutlab run [OPTIONS] < PLAN
+2|cutlab run plan.json other.json|unexpected argument 'other.json' found|Usage: cutlab run [OPTIONS] [PLAN]
+2|cutlab check plan.json --plan plan.json|unexpected argument '--plan' found|Usage: cutlab check [PLAN]
+2|cutlab ask a.sock plan.json|unexpected argument 'plan.json' found|Usage: cutlab ask [OPTIONS] <SOCKET>
+2|cutlab share 1/2 a.cut --plan a.json --plan b.json|cannot be used multiple times
 2|cutlab check --all|unexpected argument '--all' found
 2|cutlab --frob|unexpected argument '--frob' found";
 

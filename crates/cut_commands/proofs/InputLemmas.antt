@@ -1,6 +1,6 @@
 -- A buffer after several reads into it, and the plan that is read so.
 use Rattle.std.proofs.Common.{◌≡◌, ℕ, ◌+◌, ◌≤◌, ◌<◌, false, List, [], ◌++◌, Ok}
-use Rattle.std.proofs.Common.{Err, length, take, refl, sym, ap, ◌∙◌, arith, length-append, inl}
+use Rattle.std.proofs.Common.{Err, length, nat_lt, take, refl, sym, ap, ◌∙◌, arith, length-append, inl}
 use Rattle.std.specs.Prelude.{IsErrOf}
 use Rattle.std.specs.Str.{is_utf8}
 use Rattle.std.proofs.lemmas.List.{length-take-le, take-take}
@@ -14,7 +14,7 @@ use Rattle.cut_plan.specs.declared.refusal.PlanFault.TheVariants as plan
 use Rattle.cut_plan.specs.declared.refusal.Refusal.TheVariants.{NotJson, PlanTooLong}
 use Rattle.cut_wires.specs.Log.{WireLog}
 use Rattle.cut_commands.specs.Faults.{fault_of_plan}
-use Rattle.cut_commands.specs.Run.{GivesPlan, GivesText}
+use Rattle.cut_commands.specs.Run.{GivesPlan, GivesText, IsReadAs}
 use Rattle.cut_commands.specs.inside.Run.{FillsFrom}
 use Rattle.cut_commands.specs.declared.fault.CliFault.{CliFault}
 use Rattle.cut_commands.specs.declared.fault.CliFault.TheVariants.{Memory, Read}
@@ -53,11 +53,10 @@ gives_no_plan Read old new is = record { text = is.0; ended = false; log = is.2;
 gives_no_plan fault old new is = absurd is
 
 -- no plan was made of a text that was read
-pub gives_refused : {T : Type 0} (text : List ℕ) (fault : PlanFault) (old new : WireLog)
-    → GivesText 65537 (Ok text) old new
+pub refused_as : {T : Type 0} (text : List ℕ) (fault : PlanFault) → length text ≤ 65537
     → IsFaultOfText (plan_of text) fault → (65536 < length text
     → IsErrOf {T = T} (Err fault) (plan.Refused PlanTooLong))
     → (length text ≤ 65536 → is_utf8 text ≡ false → IsErrOf {T = T} (Err fault) (plan.Refused NotJson))
-    → GivesPlan (Err (fault_of_plan fault)) old new
-gives_refused text plan.Memory old new read why long utf8 = grind arith
-gives_refused text (plan.Refused refusal) old new read why long utf8 = grind arith
+    → IsReadAs text (nat_lt (length text) 65537) (Err (fault_of_plan fault))
+refused_as text plan.Memory short why long utf8 = grind arith
+refused_as text (plan.Refused refusal) short why long utf8 = grind arith

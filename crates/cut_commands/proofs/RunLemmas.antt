@@ -29,7 +29,7 @@ accepted_at_sight text v is = by (nat_lt 65536 (length text)) (is_utf8 text) ref
     by false false is_long is_text = absurd (let bad = rw (is_long, is_text) at is in cc)
 
 -- what is written to a plan is written to its text
-answers_text : (task : Task) (text : List ℕ) (ended : Bool) (v : Values) (result : Result ⊤ CliFault) (written : List ℕ)
+pub answers_text : (task : Task) (text : List ℕ) (ended : Bool) (v : Values) (result : Result ⊤ CliFault) (written : List ℕ)
     → IsReadThrough 65537 text ended → plan_of text ≡ Ok v → AnswersPlan task v result written
     → CommandAnswers task text ended result written
 answers_text task text ended v (Ok done) written through read is = (through, (v, read, is))
@@ -52,7 +52,7 @@ ends_left task v result old mid new given left = record {
 
 -- ---- no plan
 
-answers_none : (task : Task) (text : List ℕ) (ended : Bool) (fault : CliFault) → IsReadAs text ended (Err fault)
+pub answers_none : (task : Task) (text : List ℕ) (ended : Bool) (fault : CliFault) → IsReadAs text ended (Err fault)
     → CommandAnswers task text ended (Err fault) []
 answers_none task text ended Memory is = (is, refl)
 answers_none task text ended Read is = (is, refl)
@@ -130,7 +130,7 @@ module _ (a b : Task) (text : List ℕ) (weak : Weakens a b) where
       (weak.fails text v AuditMismatch read is.0, prefix_as v written read is.1)
   answers_plan_as v (Err fault) written read is = absurd is
 
-  answers_as : (ended : Bool) (r : Result ⊤ CliFault) (written : List ℕ) → CommandAnswers a text ended r written
+  pub answers_as : (ended : Bool) (r : Result ⊤ CliFault) (written : List ℕ) → CommandAnswers a text ended r written
       → CommandAnswers b text ended r written
   answers_as ended (Ok done) written is =
       (is.0, (is.1.0, is.1.1, answers_plan_as is.1.0 (Ok done) written is.1.1 is.1.2))

@@ -1,10 +1,11 @@
 -- What a migration writes for a plan, by what the disk of its checkpoint holds.
-use Rattle.std.specs.Prelude.{◌≡◌, ◌≢◌, ◌⊎◌, ℕ, true, List, length, codes, Result, Ok, Err, ⊤}
+use Rattle.std.specs.Prelude.{◌≡◌, ◌≢◌, ◌⊎◌, ℕ, true, List, length, codes, Option, Result, Ok, Err, ⊤}
+use Rattle.std.specs.Borrow.{Bor}
 use Rattle.cut_fields.specs.declared.version.Version.TheVariants.{One, Two}
 use Rattle.cut_plan.specs.Values.{Values}
 use Rattle.cut_plan.specs.Failing.{version_of}
 use Rattle.cut_disks.specs.Log.{DiskLog, IsKnown, on}
-use Rattle.cut_files.specs.Place.{Place, MayNotOpen, OpensAs}
+use Rattle.cut_files.specs.Place.{Place, MayNotOpen, OpensAs, while_open}
 use Rattle.cut_files.specs.declared.files.Mode.TheVariants.{Existing, Create}
 use Rattle.cut_files.specs.declared.files.OpenFault.{OpenFault}
 use Rattle.cut_ledger.specs.declared.slip.Slip.{Slip}
@@ -20,7 +21,7 @@ use Rattle.cut_commands.specs.Check.{number_line}
 use Rattle.cut_commands.specs.Task.{Task}
 use Rattle.cut_wires.specs.Log.{WireLog}
 use Rattle.cut_commands.specs.Faults.{IsRefusalOfNew, IsRefusalOfOld, fault_of_files}
-use Rattle.cut_commands.specs.Run.{EndsCommand}
+use Rattle.cut_commands.specs.Run.{EndsCommandFrom, plan_place}
 use Rattle.cut_commands.specs.declared.fault.CliFault.{CliFault}
 use Rattle.cut_commands.specs.declared.fault.CliFault.TheVariants.{Memory, Journal, Migrate}
 
@@ -101,11 +102,12 @@ EndsMove old new v (Err fault) = MigrateFails old new v fault
 -- ---- from one file to another
 
 -- how a migration ends from the file at one path to that at another: over what stood at both; or one of them was not opened, and
--- nothing was read or written. The same path can't be opened twice
-abbrev pub EndsMigrate : List ℕ → List ℕ → (List ℕ → Place) → WireLog → WireLog → Result ⊤ CliFault → Type 0
-EndsMigrate from to before old new result =
+-- nothing was read or written. The same path can't be opened twice. A plan's file is read while both are open
+abbrev pub EndsMigrate : List ℕ → List ℕ → Option (Bor (List ℕ)) → (List ℕ → Place) → WireLog → WireLog
+    → Result ⊤ CliFault → Type 0
+EndsMigrate from to plan before old new result =
     ((source : DiskLog) × (target : DiskLog) × (OpensAs Existing source (before from) × OpensAs Create target (before to)
-    × EndsCommand (migrate_task source target) old new result))
+    × EndsCommandFrom (migrate_task source target) (plan_place (while_open to (while_open from before)) plan) old new result))
     ⊎ ((fault : OpenFault) × ((MayNotOpen Existing fault (before from)
     ⊎ ((from ≡ to) ⊎ MayNotOpen Create fault (before to))) × (result ≡ Err (fault_of_files fault)) × (new ≡ old)))
 

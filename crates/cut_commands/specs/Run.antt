@@ -1,6 +1,7 @@
 -- What a command of the program leaves on its wire.
 use Rattle.std.specs.Prelude.{◌≡◌, ◌<◌, ◌≤◌, ◌⊎◌, ◌++◌, ℕ, Bool, false, List, [], length, take, nat_lt, Option, Some}
-use Rattle.std.specs.Prelude.{None, Result, Ok, Err, ⊤, if◌then◌else◌}
+use Rattle.std.specs.Prelude.{None, Result, Ok, Err, ⊤, if◌then◌else◌, option_map}
+use Rattle.std.specs.Borrow.{Bor}
 use Rattle.std.specs.Str.{is_utf8}
 use Rattle.cut_commands.specs.declared.input.TheConstants.{TEXT_LIMIT}
 use Rattle.cut_plan.specs.declared.limits.TheConstants.{LONGEST_TEXT}
@@ -11,6 +12,11 @@ use Rattle.cut_plan.specs.Values.{Values}
 use Rattle.cut_plan.specs.Accepted.{plan_of}
 use Rattle.cut_wires.specs.Log.{WireLog, passing, wrote, read_failed, write_failed}
 use Rattle.cut_journal.specs.declared.fault.JournalFault.TheVariants.{Disk}
+use Rattle.cut_files.specs.Place.{Place, IsStart, MayNotRead}
+use Rattle.cut_files.specs.declared.files.OpenFault.{OpenFault}
+use Rattle.cut_commands.specs.declared.input.PlanSource.{PlanSource}
+use Rattle.cut_commands.specs.declared.input.PlanSource.TheVariants as source
+use Rattle.cut_commands.specs.Faults.{fault_of_files}
 use Rattle.cut_commands.specs.Check.{canonical_line, check_text}
 use Rattle.cut_commands.specs.Task.{Task}
 use Rattle.cut_commands.specs.declared.fault.CliFault.{CliFault}
@@ -98,9 +104,59 @@ pub record EndsWith (answering : List ℕ → Bool → Result ⊤ CliFault → L
   pub log : new ≡ failed_by result (wrote (read_on text ended old) written)
   pub answers : answering text ended result written
 
+-- ---- where a plan is read from
+
+-- what stands at the path of a plan's file, where one is named; else the plan is read from the wire
+abbrev pub plan_place : (List ℕ → Place) → Option (Bor (List ℕ)) → Option Place
+plan_place places plan = option_map (λ path. places path.now) plan
+
+abbrev pub source_place : {F : Type 0} → (F → List ℕ → Place) → PlanSource F → Option Place
+source_place log source.Input = None
+source_place log (source.File files path) = Some (log files.now path.now)
+
+-- a text is that of a plan's file: its first bytes, as many as are read at most
+pub record IsPlanText (place : Place) (text : List ℕ) : Type 0 where
+  pub short : length text ≤ TEXT_LIMIT
+  pub start : IsStart TEXT_LIMIT text place
+
+-- a plan's file was not read, and the wire is as it was
+abbrev pub IsUnread : {T : Type 0} → Place → Result T CliFault → WireLog → WireLog → Type 0
+IsUnread place (Ok value) old new = ⊥
+IsUnread place (Err fault) old new =
+    (cause : OpenFault) × MayNotRead cause place × (fault ≡ fault_of_files cause) × (new ≡ old)
+
+-- how a command ends that read a text from a file: the wire gave nothing, and was written to as an answer says to this
+-- text, all of which was read. So no read of the wire fails
+pub record EndsOnText (answering : List ℕ → Bool → Result ⊤ CliFault → List ℕ → Type 0) (place : Place)
+    (old new : WireLog) (result : Result ⊤ CliFault) : Type 0 where
+  pub text : List ℕ
+  pub is : IsPlanText place text
+  pub written : List ℕ
+  pub log : new ≡ failed_by result (wrote old written)
+  pub answers : answering text (nat_lt (length text) TEXT_LIMIT) result written
+
+-- how a command ends that read from its wire, or from a file
+abbrev pub EndsRead : (List ℕ → Bool → Result ⊤ CliFault → List ℕ → Type 0) → Option Place → WireLog → WireLog
+    → Result ⊤ CliFault → Type 0
+EndsRead answering None old new result = EndsWith answering old new result
+EndsRead answering (Some place) old new result = EndsOnText answering place old new result
+
+-- how a command ends, by where its plan is read from
+abbrev pub EndsFrom : (List ℕ → Bool → Result ⊤ CliFault → List ℕ → Type 0) → Option Place → WireLog → WireLog
+    → Result ⊤ CliFault → Type 0
+EndsFrom answering None old new result = EndsWith answering old new result
+EndsFrom answering (Some place) old new result =
+    EndsOnText answering place old new result ⊎ IsUnread place result old new
+
+-- ---- commands
+
 -- one that works on a plan
 abbrev pub EndsCommand : Task → WireLog → WireLog → Result ⊤ CliFault → Type 0
 EndsCommand task old new result = EndsWith (CommandAnswers task) old new result
+
+-- and by where the plan is read from
+abbrev pub EndsCommandFrom : Task → Option Place → WireLog → WireLog → Result ⊤ CliFault → Type 0
+EndsCommandFrom task plan old new result = EndsFrom (CommandAnswers task) plan old new result
 
 -- the answer of `check`
 abbrev pub check_task : Task
@@ -110,10 +166,6 @@ check_task = record { answers = λ v whole. whole ≡ check_text v; fails = λ v
 abbrev pub canonical_task : Task
 canonical_task = record { answers = λ v whole. whole ≡ canonical_line v; fails = λ v fault. ⊥ }
 
--- how a command ends that opens a file first: where that does not open, nothing is read or written
-abbrev pub EndsWithFile : Task → WireLog → WireLog → Result ⊤ CliFault → Type 0
-EndsWithFile task old new result = ((result ≡ Err (Journal Disk)) × (new ≡ old)) ⊎ EndsCommand task old new result
-
 -- what reading up to a limit gives: the text, or a fault before it was read
 abbrev pub GivesText : ℕ → Result (List ℕ) CliFault → WireLog → WireLog → Type 0
 GivesText limit (Ok text) old new =
@@ -122,6 +174,12 @@ GivesText limit (Err Memory) old new = new ≡ old
 GivesText limit (Err Read) old new =
     (bytes : List ℕ) × (length bytes < limit) × (new ≡ read_failed (read_on bytes false old))
 GivesText limit (Err fault) old new = ⊥
+
+-- the same by where it is read from
+abbrev pub GivesTextFrom : Option Place → Result (List ℕ) CliFault → WireLog → WireLog → Type 0
+GivesTextFrom None result old new = GivesText TEXT_LIMIT result old new
+GivesTextFrom (Some place) (Ok text) old new = IsPlanText place text × (new ≡ old)
+GivesTextFrom (Some place) (Err fault) old new = IsUnread {T = List ℕ} place (Err fault) old new
 
 -- the plan that a text is, or why there is none
 abbrev pub IsReadAs : List ℕ → Bool → Result Values CliFault → Type 0
@@ -137,6 +195,13 @@ pub record GivesPlan (result : Result Values CliFault) (old new : WireLog) : Typ
   pub ended : Bool
   pub log : new ≡ failed_by result (read_on text ended old)
   pub is : IsReadAs text ended result
+
+-- the same by where it is read from
+abbrev pub GivesPlanFrom : Option Place → Result Values CliFault → WireLog → WireLog → Type 0
+GivesPlanFrom None result old new = GivesPlan result old new
+GivesPlanFrom (Some place) result old new =
+    ((text : List ℕ) × (IsPlanText place text × IsReadAs text (nat_lt (length text) TEXT_LIMIT) result × (new ≡ old)))
+    ⊎ IsUnread place result old new
 
 -- an answer was written, or as many of its first bytes as are reported, when a write failed
 abbrev pub IsWritten : List ℕ → Result ⊤ CliFault → WireLog → WireLog → Type 0

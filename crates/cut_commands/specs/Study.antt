@@ -17,7 +17,7 @@ use Rattle.cut_journal.specs.Opening.{IsFoundOn, IsOpenFault}
 use Rattle.cut_journal.specs.Reading.{reading}
 use Rattle.cut_wires.specs.Log.{WireLog}
 use Rattle.cut_commands.specs.Faults.{fault_of_files}
-use Rattle.cut_commands.specs.Run.{EndsCommand}
+use Rattle.cut_commands.specs.Run.{EndsCommandFrom}
 use Rattle.cut_commands.specs.Task.{Task}
 use Rattle.cut_commands.specs.declared.fault.CliFault.{CliFault}
 use Rattle.cut_commands.specs.declared.fault.CliFault.TheVariants.{Journal, BadSlip, Checkpoint, WorkMemory}
@@ -88,18 +88,24 @@ StoreFails disk v fault = MayEnd fault
 abbrev pub table_task : Option DiskLog → Task
 table_task disk = record { answers = λ v whole. whole ≡ table v; fails = StoreFails disk }
 
--- how a study ends over a disk: by the slips that it holds, and by the table of the plan where they are true
-pub record RunsOn (disk : Option DiskLog) (old new : WireLog) (result : Result ⊤ CliFault) : Type 0 where
-  pub ends : EndsCommand (study_task disk) old new result
-  pub table : IsTrueStore disk → EndsCommand (table_task disk) old new result
+-- how a study ends over a disk, by where its plan is read from: by the slips that the disk holds, and by the table of
+-- the plan where they are true
+pub record RunsFrom (disk : Option DiskLog) (plan : Option Place) (old new : WireLog) (result : Result ⊤ CliFault)
+    : Type 0 where
+  pub ends : EndsCommandFrom (study_task disk) plan old new result
+  pub table : IsTrueStore disk → EndsCommandFrom (table_task disk) plan old new result
+
+-- where it is read from the wire
+abbrev pub RunsOn : Option DiskLog → WireLog → WireLog → Result ⊤ CliFault → Type 0
+RunsOn disk old new result = RunsFrom disk None old new result
 
 -- ---- over a file
 
--- how it ends over what stands at a path, and what stands there then: the file was opened, and is not shut; or it was not
+-- how it ends over what stands at a path, by where its plan is read from, and what stands there then: the file was opened, and is not shut; or it was not
 -- opened, and nothing was read or written
-abbrev pub EndsStudy : Place → Place → WireLog → WireLog → Result ⊤ CliFault → Type 0
-EndsStudy place after old new result =
-    ((disk : DiskLog) × (OpensAs Create disk place × (after ≡ opened place) × RunsOn (Some disk) old new result))
+abbrev pub EndsStudy : Option Place → Place → Place → WireLog → WireLog → Result ⊤ CliFault → Type 0
+EndsStudy plan place after old new result =
+    ((disk : DiskLog) × (OpensAs Create disk place × (after ≡ opened place) × RunsFrom (Some disk) plan old new result))
     ⊎ ((fault : OpenFault) × (MayNotOpen Create fault place × (after ≡ place) × (result ≡ Err (fault_of_files fault))
     × (new ≡ old)))
 

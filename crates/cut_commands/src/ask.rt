@@ -1,7 +1,9 @@
-ghost use Rattle.cut_commands.specs.Ask.{AsksFor, EndsAsk};
+ghost use Rattle.cut_commands.specs.Ask.{AsksFor, AsksFrom, EndsAsk};
+ghost use Rattle.cut_commands.specs.Run.{source_place};
 
 use crate::CliFault;
-use crate::input::{TEXT_LIMIT, read_text};
+use crate::input::PlanSource;
+use cut_files::{Files, MemoryFiles};
 use cut_messages::ask;
 use cut_wires::{StreamWire, Wire};
 use std::alloc::Global;
@@ -15,19 +17,41 @@ use std::os::unix::net::UnixStream;
 pub fn ask_io<W: Wire, S: Wire>(alloc: Global, wire: &mut W, server: &mut S) -> Result<(), CliFault>
     ensures { AsksFor result (W.log wire.old) (W.log wire.new) (S.log server.old) (S.log server.new) }
 {
-    let text = read_text(alloc, wire, TEXT_LIMIT)?;
+    ask_from(alloc, PlanSource::<MemoryFiles>::Input, wire, server)
+}
+
+/// The same of a text that is read from a wire or a file.
+fn ask_from<F: Files, W: Wire, S: Wire>(
+    alloc: Global,
+    source: PlanSource<'_, F>,
+    wire: &mut W,
+    server: &mut S,
+) -> Result<(), CliFault>
+    ensures { AsksFrom (source_place F.log source.entry) result (W.log wire.old) (W.log wire.new)
+        (S.log server.old) (S.log server.new) }
+{
+    let text = source.read_text(alloc, wire)?;
     match ask(alloc, text.as_slice(), server, wire) {
         Ok(()) => Ok(()),
         Err(fault) => Err(CliFault::Asked(fault)),
     }
 }
 
-/// Asks, as `ask_io` does, the server whose socket is at a path. Where it is not connected to, nothing is read.
-pub fn ask_at<W: Wire>(host: &HostRuntime, wire: &mut W, path: &str) -> Result<(), CliFault>
-    ensures { EndsAsk (W.log wire.old) (W.log wire.new) result }
+/// Asks, as `ask_io` does, the server whose socket is at a path, for a plan that is read from a wire or a file. Where the
+/// server is not connected to, nothing is read.
+pub fn ask_at<F: Files, W: Wire>(
+    host: &HostRuntime,
+    source: PlanSource<'_, F>,
+    wire: &mut W,
+    path: &str,
+) -> Result<(), CliFault>
+    ensures { EndsAsk (source_place F.log source.entry) (W.log wire.old) (W.log wire.new) result }
 {
     match UnixStream::connect(host, path) {
-        Ok(stream) => ask_io(host.alloc(), wire, &mut StreamWire::new(&stream, &stream)),
+        Ok(stream) => {
+            let mut server = StreamWire::new(&stream, &stream);
+            ask_from(host.alloc(), source, wire, &mut server)
+        }
         Err(_) => Err(CliFault::Socket),
     }
 }

@@ -1,10 +1,11 @@
 ghost use Rattle.std.specs.Prelude.{◌≡◌, string_bytes, IfOk};
 ghost use Rattle.cut_commands.specs.Check.{check_text};
-ghost use Rattle.cut_commands.specs.Run.{EndsCommand, check_task};
+ghost use Rattle.cut_commands.specs.Run.{EndsCommand, EndsCommandFrom, check_task, source_place};
 
 use crate::CliFault;
-use crate::input::read_plan;
+use crate::input::PlanSource;
 use crate::output::{push_line, write_answer};
+use cut_files::{Files, MemoryFiles};
 use cut_outcome::quorum;
 use cut_plan::Plan;
 use cut_wires::Wire;
@@ -16,7 +17,18 @@ use std::alloc::{AllocError, Global};
 pub fn check_io<W: Wire>(alloc: Global, wire: &mut W) -> Result<(), CliFault>
     ensures { EndsCommand check_task (W.log wire.old) (W.log wire.new) result }
 {
-    let plan = read_plan(alloc, wire)?;
+    check_from(alloc, PlanSource::<MemoryFiles>::Input, wire)
+}
+
+/// The same of a plan that is read from a wire or a file.
+pub fn check_from<F: Files, W: Wire>(
+    alloc: Global,
+    source: PlanSource<'_, F>,
+    wire: &mut W,
+) -> Result<(), CliFault>
+    ensures { EndsCommandFrom check_task (source_place F.log source.entry) (W.log wire.old) (W.log wire.new) result }
+{
+    let plan = source.read_plan(alloc, wire)?;
     let text = check_text(alloc, &plan)?;
     write_answer(wire, text.as_bytes())
 }

@@ -1,11 +1,12 @@
 ghost use Rattle.cut_commands.specs.Explain.{Explains};
-ghost use Rattle.cut_commands.specs.Run.{EndsWith};
+ghost use Rattle.cut_commands.specs.Run.{EndsFrom, EndsWith, source_place};
 ghost use Rattle.cut_commands.specs.inside.Explain.{IsWrittenAfter};
 
 use crate::CliFault;
-use crate::input::{TEXT_LIMIT, read_text};
+use crate::input::PlanSource;
 use crate::output::write_answer;
 use cut_explain::{Explanation, estimate_study, explain};
+use cut_files::{Files, MemoryFiles};
 use cut_plan::Plan;
 use cut_wires::{Sent, Wire, send_all};
 use std::alloc::Global;
@@ -23,7 +24,19 @@ pub fn explain_io<W: Wire, C: CpuClock>(
 ) -> Result<(), CliFault>
     ensures { EndsWith Explains (W.log wire.old) (W.log wire.new) result }
 {
-    let text = read_text(alloc, wire, TEXT_LIMIT)?;
+    explain_from(alloc, clock, PlanSource::<MemoryFiles>::Input, wire)
+}
+
+/// The same of a text that is read from a wire or a file.
+pub fn explain_from<F: Files, W: Wire, C: CpuClock>(
+    alloc: Global,
+    clock: &C,
+    source: PlanSource<'_, F>,
+    wire: &mut W,
+) -> Result<(), CliFault>
+    ensures { EndsFrom Explains (source_place F.log source.entry) (W.log wire.old) (W.log wire.new) result }
+{
+    let text = source.read_text(alloc, wire)?;
     let Explanation { plan, text: lines } = explain(alloc, text.as_slice())?;
     write_answer(wire, lines.as_bytes())?;
     match plan {

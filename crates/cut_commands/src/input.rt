@@ -1,8 +1,9 @@
-ghost use Rattle.cut_commands.specs.Run.{GivesPlan, GivesText};
+ghost use Rattle.cut_commands.specs.Run.{GivesPlan, GivesPlanFrom, GivesText, GivesTextFrom, plan_place, source_place};
 ghost use Rattle.cut_commands.specs.inside.Run.{FillsFrom, text_of};
-ghost use Rattle.std.specs.Prelude.{length};
+ghost use Rattle.std.specs.Prelude.{◌≡◌, length};
 
 use crate::CliFault;
+use cut_files::{Files, MemoryFiles};
 use cut_plan::{LONGEST_TEXT, Plan};
 use cut_wires::Wire;
 use std::alloc::Global;
@@ -10,19 +11,66 @@ use std::alloc::Global;
 /// How many bytes of its input the program reads at most: one more than a plan may have.
 pub(crate) const TEXT_LIMIT: usize = LONGEST_TEXT + 1;
 
-/// Reads a plan from a wire, as each command does that works on one.
-///
-/// At most 65,537 bytes are read, one more than a plan may have. Where the text is refused its first fault is returned,
-/// and where a read fails Read.
+/// Where a command reads its plan from. At most 65,537 bytes are read of either, one more than a plan may have.
+#[derive(Drop)]
+pub enum PlanSource<'a, F> {
+    /// The wire of the command, up to its end.
+    Input,
+    /// A file, which is only read. It is not locked, and may be open.
+    File {
+        /// The files of which it is one.
+        files: &'a F,
+        /// Its path.
+        path: &'a str,
+    },
+}
+
+impl<'a, F: Files> PlanSource<'a, F> {
+    /// The file at a path, where one is named, and else the wire.
+    pub fn of(files: &'a F, plan: Option<&'a str>) -> PlanSource<'a, F>
+        ensures { source_place F.log result ≡ plan_place (F.log files.now) plan.entry }
+    {
+        match plan {
+            Some(path) => PlanSource::File { files, path },
+            None => PlanSource::Input,
+        }
+    }
+
+    /// Reads a plan, as each command does that works on one.
+    ///
+    /// Where the text is refused its first fault is returned, where a read of the wire fails Read, and where a file is not
+    /// read the journal's Disk. Of a wire nothing is read where the plan has a file.
+    pub fn read_plan<W: Wire>(&self, alloc: Global, wire: &mut W) -> Result<Plan, CliFault>
+        ensures { GivesPlanFrom (source_place F.log self.now) result (W.log wire.old) (W.log wire.new) }
+    {
+        let text = self.read_text(alloc, wire)?;
+        Ok(Plan::from_json(alloc, text.as_slice())?)
+    }
+
+    /// Reads the text of a plan.
+    pub(crate) fn read_text<W: Wire>(
+        &self,
+        alloc: Global,
+        wire: &mut W,
+    ) -> Result<Vec<u8>, CliFault>
+        ensures { GivesTextFrom (source_place F.log self.now) (text_of result) (W.log wire.old) (W.log wire.new) }
+    {
+        match self {
+            PlanSource::Input => read_text(alloc, wire, TEXT_LIMIT),
+            PlanSource::File { files, path } => Ok(files.read_start(alloc, path, TEXT_LIMIT)?),
+        }
+    }
+}
+
+/// Reads a plan from a wire, as `PlanSource::read_plan` does.
 pub fn read_plan<W: Wire>(alloc: Global, wire: &mut W) -> Result<Plan, CliFault>
     ensures { GivesPlan result (W.log wire.old) (W.log wire.new) }
 {
-    let text = read_text(alloc, wire, TEXT_LIMIT)?;
-    Ok(Plan::from_json(alloc, text.as_slice())?)
+    PlanSource::<MemoryFiles>::Input.read_plan(alloc, wire)
 }
 
 /// The first bytes that a wire gives, up to a limit. A read that fails, or that is interrupted, is a fault.
-pub(crate) fn read_text<W: Wire>(
+fn read_text<W: Wire>(
     alloc: Global,
     wire: &mut W,
     limit: usize,

@@ -4,7 +4,9 @@
 //! [`check_io`] writes what it has, [`explain_io`] what is right or wrong with its text, and [`canonical_io`] its
 //! canonical text. [`status`] writes what a checkpoint file holds, [`migrate`]
 //! moves a study of version 1 to its plan's upgrade, and [`ask_io`] asks a server for a table,
-//! [`ask_at`] one at a socket. Each ends with its answer or with a [`CliFault`], whose line and status are those that
+//! [`ask_at`] one at a socket. A [`PlanSource`] says where the plan is read from, be it a file: [`run_from`], [`check_from`],
+//! [`explain_from`], [`canonical_from`] and [`ask_at`] take one. Each ends with its answer or with a [`CliFault`], whose
+//! line and status are those that
 //! the program ends with.
 //!
 //! What they say of the bytes on a wire is known where its log has them; that a failed read or write is reported
@@ -24,12 +26,12 @@ mod run_command;
 mod status_command;
 
 pub use ask::{ask_at, ask_io};
-pub use canonical::canonical_io;
-pub use check::check_io;
-pub use explain::explain_io;
+pub use canonical::{canonical_from, canonical_io};
+pub use check::{check_from, check_io};
+pub use explain::{explain_from, explain_io};
 pub use fault::{CliFault, FaultText};
-pub use input::read_plan;
-pub use migrate_command::{migrate, migrate_io};
+pub use input::{PlanSource, read_plan};
+pub use migrate_command::{MigratedFiles, migrate, migrate_io};
 pub use output::write_answer;
-pub use run_command::{KeptWork, Work, run, run_io};
+pub use run_command::{KeptWork, Study, Work, run, run_from, run_io};
 pub use status_command::status;

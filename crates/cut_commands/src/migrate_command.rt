@@ -3,13 +3,13 @@ ghost use Rattle.cut_disks.specs.Log.{IsKnown, on};
 ghost use Rattle.cut_journal.specs.Opening.{IsReopenFault, IsOpeningFaultOf, MayNotClaim, is_unclaimed};
 ghost use Rattle.cut_journal.specs.Reading.{reading};
 ghost use Rattle.cut_commands.specs.Migrate.{EndsMigrate, EndsMove, IsHeld, StaysBeside, migrate_task, moved_text};
-ghost use Rattle.cut_commands.specs.Run.{EndsCommand};
+ghost use Rattle.cut_commands.specs.Run.{EndsCommand, EndsCommandFrom, source_place};
 
 use crate::CliFault;
-use crate::input::read_plan;
+use crate::input::PlanSource;
 use crate::output::{push_line, write_answer};
 use cut_disks::Disk;
-use cut_files::{Files, Mode};
+use cut_files::{Files, MemoryFiles, Mode};
 use cut_journal::{Journal, JournalFault};
 use cut_ledger::Slip;
 use cut_plan::Plan;
@@ -31,26 +31,57 @@ where
     N: Disk + Drop,
     ensures { EndsCommand (migrate_task (O.log old) (N.log new)) (W.log wire.old) (W.log wire.new) result }
 {
-    let plan = read_plan(alloc, wire)?;
+    migrate_from(alloc, PlanSource::<MemoryFiles>::Input, wire, old, new)
+}
+
+/// The same by a plan that is read from a wire or a file.
+fn migrate_from<F, W, O, N>(
+    alloc: Global,
+    source: PlanSource<'_, F>,
+    wire: &mut W,
+    old: O,
+    new: N,
+) -> Result<(), CliFault>
+where
+    F: Files,
+    W: Wire,
+    O: Disk + Drop,
+    N: Disk + Drop,
+    ensures { EndsCommandFrom (migrate_task (O.log old) (N.log new)) (source_place F.log source.entry)
+        (W.log wire.old) (W.log wire.new) result }
+{
+    let plan = source.read_plan(alloc, wire)?;
     let count = move_study(alloc, &plan, old, new)?;
     let text = moved_text(alloc, count)?;
     write_answer(wire, text.as_bytes())
 }
 
+/// The files of a migration.
+#[derive(Clone, Copy, Debug)]
+pub struct MigratedFiles<'a> {
+    /// The path of the old checkpoint.
+    pub from: &'a str,
+    /// The path of the new one.
+    pub to: &'a str,
+    /// The path of the file that the plan is read from, if it is not the wire.
+    pub plan: Option<&'a str>,
+}
+
 /// Moves a study as `migrate_io` does, from the file at one path to that at another.
 ///
 /// Both files are opened before anything is read, the old one first, and shut at the end. The new one is made where there
-/// is none. One path can't be both.
+/// is none. One path can't be both. The file of a plan is read where the wire would be read.
 pub fn migrate<F: Files, W: Wire>(
     files: &mut F,
     alloc: Global,
     wire: &mut W,
-    from: &str,
-    to: &str,
+    paths: MigratedFiles<'_>,
 ) -> Result<(), CliFault>
-    ensures ends { EndsMigrate from.now to.now (F.log files.old) (W.log wire.old) (W.log wire.new) result }
-    ensures beside { StaysBeside from.now to.now (F.log files.old) (F.log files.new) }
+    ensures ends { EndsMigrate paths.entry.from.now paths.entry.to.now paths.entry.plan (F.log files.old)
+        (W.log wire.old) (W.log wire.new) result }
+    ensures beside { StaysBeside paths.entry.from.now paths.entry.to.now (F.log files.old) (F.log files.new) }
 {
+    let MigratedFiles { from, to, plan } = paths;
     let mut old = files.open(from, Mode::Existing)?;
     let mut new = match files.open(to, Mode::Create) {
         Ok(new) => new,
@@ -59,7 +90,8 @@ pub fn migrate<F: Files, W: Wire>(
             return Err(CliFault::from(fault));
         }
     };
-    let ended = migrate_io(alloc, wire, &mut old, &mut new);
+    let source = PlanSource::of(&*files, plan);
+    let ended = migrate_from(alloc, source, wire, &mut old, &mut new);
     files.close(from, old);
     files.close(to, new);
     ended

@@ -1,13 +1,13 @@
-ghost use Rattle.std.specs.Prelude.{◌≤◌, option_map};
-ghost use Rattle.cut_files.specs.Place.{StaysElsewhere};
-ghost use Rattle.cut_commands.specs.Run.{EndsCommand};
-ghost use Rattle.cut_commands.specs.Study.{EndsStudy, RunsOn, study_task};
+ghost use Rattle.std.specs.Prelude.{◌≡◌, ◌≤◌, option_map};
+ghost use Rattle.cut_files.specs.Place.{StaysElsewhere, while_open};
+ghost use Rattle.cut_commands.specs.Run.{EndsCommandFrom, plan_place, source_place};
+ghost use Rattle.cut_commands.specs.Study.{EndsStudy, RunsFrom, RunsOn, study_task};
 
 use crate::CliFault;
 use crate::checkpoint::open_checkpoint;
-use crate::input::read_plan;
+use crate::input::PlanSource;
 use cut_disks::Disk;
-use cut_files::{Files, Mode};
+use cut_files::{Files, MemoryFiles, Mode};
 use cut_ledger::laws::true_slips_give_the_table;
 use cut_outcome::Gate;
 use cut_plan::accepted_texts_give_plans;
@@ -60,35 +60,81 @@ where
     R: Threads + Wait + Sync,
     ensures { RunsOn (option_map D.log disk) (W.log wire.old) (W.log wire.new) result }
 {
-    accepted_texts_give_plans();
-    true_slips_give_the_table();
-    run_over_slips(rt, alloc, wire, work, disk)
+    let source = PlanSource::<MemoryFiles>::Input;
+    run_from(rt, alloc, wire, Study::new(work, disk, source))
 }
 
-/// The same, by the slips that the disk holds, whichever they are.
-fn run_over_slips<W, D, G, R>(
+/// A study: how it is worked on, the disk that keeps it, if there is one, and where its plan is read from.
+#[derive(Drop)]
+pub struct Study<'a, G, D, F> {
+    /// How it is worked on.
+    pub work: Work<'a, G>,
+    /// The disk that keeps it.
+    pub disk: Option<D>,
+    /// Where its plan is read from.
+    pub source: PlanSource<'a, F>,
+}
+
+impl<'a, G, D, F> Study<'a, G, D, F> {
+    /// A study that is worked on so, on a disk or on none, by the plan that is read there.
+    pub fn new(
+        work: Work<'a, G>,
+        disk: Option<D>,
+        source: PlanSource<'a, F>,
+    ) -> Study<'a, G, D, F>
+        ensures { (result.work ≡ work.entry) × (result.disk ≡ disk) × (result.source ≡ source.entry) }
+    {
+        Study { work, disk, source }
+    }
+}
+
+/// Runs a study as `run_io` does, whose plan is read from a wire or a file.
+pub fn run_from<F, W, D, G, R>(
     rt: &R,
     alloc: Global,
     wire: &mut W,
-    work: Work<'_, G>,
-    disk: Option<D>,
+    study: Study<'_, G, D, F>,
 ) -> Result<(), CliFault>
 where
+    F: Files,
     W: Wire,
     D: Disk + Drop + Send,
     G: Gate + Sync,
     R: Threads + Wait + Sync,
-    ensures { EndsCommand (study_task (option_map D.log disk)) (W.log wire.old) (W.log wire.new) result }
+    ensures { RunsFrom (option_map D.log study.entry.disk) (source_place F.log study.entry.source)
+        (W.log wire.old) (W.log wire.new) result }
 {
-    let plan = read_plan(alloc, wire)?;
+    accepted_texts_give_plans();
+    true_slips_give_the_table();
+    run_over_slips(rt, alloc, wire, study)
+}
+
+/// The same, by the slips that the disk holds, whichever they are.
+fn run_over_slips<F, W, D, G, R>(
+    rt: &R,
+    alloc: Global,
+    wire: &mut W,
+    study: Study<'_, G, D, F>,
+) -> Result<(), CliFault>
+where
+    F: Files,
+    W: Wire,
+    D: Disk + Drop + Send,
+    G: Gate + Sync,
+    R: Threads + Wait + Sync,
+    ensures { EndsCommandFrom (study_task (option_map D.log study.entry.disk)) (source_place F.log study.entry.source)
+        (W.log wire.old) (W.log wire.new) result }
+{
+    let Study { work, disk, source } = study;
+    let plan = source.read_plan(alloc, wire)?;
     let kept = open_checkpoint(alloc, disk, &plan)?;
-    let study = StudyRun {
+    let run = StudyRun {
         plan: &plan,
         kept,
         piece_size: work.piece_size,
         workers: work.workers,
     };
-    match study.run(rt, alloc, wire, work.gate) {
+    match run.run(rt, alloc, wire, work.gate) {
         Ok(_done) => Ok(()),
         Err(fault) => Err(CliFault::from(fault)),
     }
@@ -101,12 +147,14 @@ pub struct KeptWork<'a, G> {
     pub work: Work<'a, G>,
     /// The path of the file.
     pub file: &'a str,
+    /// The path of the file that the plan is read from, if it is not the wire.
+    pub plan: Option<&'a str>,
 }
 
 /// Runs a study as `run_io` does, which is kept in the file at a path.
 ///
-/// The file is opened before anything is read, and made where there is none. Where what stands at the path is known, the
-/// contract says of which slips the table is.
+/// The file is opened before anything is read, and made where there is none. The file of a plan is read after that, where
+/// the wire would be read. Where what stands at the path is known, the contract says of which slips the table is.
 pub fn run<F, W, G, R>(
     files: &mut F,
     rt: &R,
@@ -119,10 +167,12 @@ where
     W: Wire,
     G: Gate + Sync,
     R: Threads + Wait + Sync,
-    ensures ends { EndsStudy (F.log files.old kept.entry.file.now) (F.log files.new kept.entry.file.now)
+    ensures ends { EndsStudy (plan_place (while_open kept.entry.file.now (F.log files.old)) kept.entry.plan)
+        (F.log files.old kept.entry.file.now) (F.log files.new kept.entry.file.now)
         (W.log wire.old) (W.log wire.new) result }
     ensures elsewhere { StaysElsewhere kept.entry.file.now (F.log files.old) (F.log files.new) }
 {
     let disk = files.open(kept.file, Mode::Create)?;
-    run_io(rt, alloc, wire, kept.work, Some(disk))
+    let source = PlanSource::of(&*files, kept.plan);
+    run_from(rt, alloc, wire, Study::new(kept.work, Some(disk), source))
 }

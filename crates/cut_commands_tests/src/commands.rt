@@ -6,6 +6,7 @@ mod crews;
 mod devices;
 mod kept_files;
 mod migrating;
+mod plan_files;
 mod refusals;
 
 use crate::workers::workers_from;

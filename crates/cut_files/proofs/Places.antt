@@ -1,11 +1,12 @@
 -- Two files that are opened one after another, at paths that may be the same.
-use Rattle.std.proofs.Common.{◌≡◌, ◌≢◌, ◌⊎◌, ◌∙◌, inl, inr, ℕ, List, refl, sym, ap, subst, arith}
+use Rattle.std.proofs.Common.{◌≡◌, ◌≢◌, ◌⊎◌, ◌∙◌, inl, inr, ℕ, List, true, false, cond, refl, sym, ap, subst, arith}
+use Rattle.std.specs.Str.{bytes_eq}
 use Rattle.std.proofs.lemmas.Bool.Decides.{nat_tests}
 use Rattle.std.proofs.lemmas.Slice.Eq.{bytes_eq-Decides}
 use Rattle.cut_disks.specs.Log.{DiskLog}
 use Rattle.cut_files.specs.declared.files.Mode.{Mode}
 use Rattle.cut_files.specs.Place.{Place, IsOpen, IsOpened, OpensAs, StaysElsewhere, Unknown, Absent, Refused, Open, Holds}
-use Rattle.cut_files.specs.Place.{closed, opened}
+use Rattle.cut_files.specs.Place.{closed, opened, while_open}
 
 -- a path is another one or not
 pub same_path : (one other : List ℕ) → (one ≡ other) ⊎ (one ≢ other)
@@ -18,6 +19,16 @@ opened_open Absent = tt
 opened_open Refused = tt
 opened_open Open = tt
 opened_open (Holds log) = tt
+
+-- where a file was opened, each path has what it has while that is open
+pub stands_while_open : (path : List ℕ) (old new : List ℕ → Place) → new path ≡ opened (old path)
+    → StaysElsewhere path old new → (other : List ℕ) → new other ≡ while_open path old other
+stands_while_open path old new is elsewhere other =
+    let same = bytes_eq-Decides other path in
+    elim (bytes_eq other path) as (λ b. bytes_eq other path ≡ b → new other ≡ cond b (opened (old other)) (old other)) [
+      | true ↦ λ yes. ap new (same.0 yes) ∙ is ∙ sym (ap (λ (p : List ℕ). opened (old p)) (same.0 yes))
+      | false ↦ λ no. elsewhere other (λ equal. let both : true ≡ false = sym (same.1 equal) ∙ no in cc)
+    ] refl
 
 -- it stays open where another file is not opened
 pub open_still : (from to : List ℕ) (place : Place) (old new : List ℕ → Place) → old from ≡ opened place

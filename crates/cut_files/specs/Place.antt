@@ -1,5 +1,6 @@
 -- What is known of each path, and what the calls that open, close and read files make of that.
-use Rattle.std.specs.Prelude.{◌≡◌, ◌≢◌, ℕ, List, [], Some, ⊤}
+use Rattle.std.specs.Prelude.{◌≡◌, ◌≢◌, ℕ, List, [], take, Some, ⊤, if◌then◌else◌}
+use Rattle.std.specs.Str.{bytes_eq}
 use Rattle.cut_disks.specs.Log.{DiskLog, Knows}
 use Rattle.cut_disks.specs.State.{fresh}
 use Rattle.cut_files.specs.declared.files.Mode.{Mode}
@@ -35,6 +36,10 @@ abbrev pub opened : Place → Place
 opened Unknown = Unknown
 opened place = Open
 
+-- what stands at each path while the file at this one is open
+abbrev pub while_open : List ℕ → (List ℕ → Place) → List ℕ → Place
+while_open path places other = if bytes_eq other path then opened (places other) else places other
+
 -- a file was opened, and its disk has this log: what stood at its path before, and what stands there now
 abbrev pub IsOpened : Mode → DiskLog → Place → Place → Type 0
 IsOpened mode disk old new = OpensAs mode disk old × (new ≡ opened old)
@@ -65,14 +70,22 @@ IsOpen place = ⊥
 abbrev pub StaysElsewhere : List ℕ → (List ℕ → Place) → (List ℕ → Place) → Type 0
 StaysElsewhere path old new = (other : List ℕ) → other ≢ path → new other ≡ old other
 
--- bytes that were read at a path: they are those of the file, where these are known. Of an open file nothing is known,
--- and where there is no file, none are read
+-- bytes that were read at a path: they are a part of those of the file, where these are known. Of an open file nothing is
+-- known, and where there is no file, none are read
+abbrev pub IsPartOf : (List ℕ → List ℕ) → List ℕ → Place → Type 0
+IsPartOf part bytes Unknown = ⊤
+IsPartOf part bytes Absent = ⊥
+IsPartOf part bytes Refused = ⊥
+IsPartOf part bytes Open = ⊤
+IsPartOf part bytes (Holds log) = Knows log (λ d. bytes ≡ part d.bytes)
+
+-- they are all of them
 abbrev pub IsContent : List ℕ → Place → Type 0
-IsContent bytes Unknown = ⊤
-IsContent bytes Absent = ⊥
-IsContent bytes Refused = ⊥
-IsContent bytes Open = ⊤
-IsContent bytes (Holds log) = Knows log (λ d. bytes ≡ d.bytes)
+IsContent bytes place = IsPartOf (λ all. all) bytes place
+
+-- they are the first ones, up to a limit
+abbrev pub IsStart : ℕ → List ℕ → Place → Type 0
+IsStart limit bytes place = IsPartOf (take limit) bytes place
 
 -- what stands at a path that was not read: where memory ran out, anything. Else no file that is closed
 abbrev pub MayNotRead : OpenFault → Place → Type 0

@@ -1,6 +1,6 @@
-ghost use Rattle.std.specs.Prelude.{◌≡◌, ℕ, List, IfOk, IfErr, OnErr};
+ghost use Rattle.std.specs.Prelude.{◌≡◌, ◌≤◌, ℕ, List, length, IfOk, IfErr, OnErr};
 ghost use Rattle.cut_files.specs.Place.{Place, IsOpened, MayNotOpen, closed, IsOpen, StaysElsewhere};
-ghost use Rattle.cut_files.specs.Place.{IsContent, MayNotRead};
+ghost use Rattle.cut_files.specs.Place.{IsContent, IsStart, MayNotRead};
 
 use cut_disks::Disk;
 use std::alloc::{AllocError, Global};
@@ -75,5 +75,14 @@ pub trait Files {
     /// `Memory` where memory runs out. `Disk` where no file is there, or one that is not read.
     fn read(&self, alloc: Global, path: &str) -> Result<Vec<u8>, OpenFault>
         ensures content { IfOk result (λ bytes. IsContent bytes.items (log self.now path.now)) }
+        ensures refused { IfErr result (λ fault. MayNotRead fault (log self.now path.now)) };
+
+    /// The first bytes of the file at a path, up to a limit. It is not locked, and may be open.
+    ///
+    /// # Errors
+    /// As `read`.
+    fn read_start(&self, alloc: Global, path: &str, limit: usize) -> Result<Vec<u8>, OpenFault>
+        ensures content { IfOk result (λ bytes. IsStart limit bytes.items (log self.now path.now)) }
+        ensures short { IfOk result (λ bytes. length bytes.items ≤ limit) }
         ensures refused { IfErr result (λ fault. MayNotRead fault (log self.now path.now)) };
 }

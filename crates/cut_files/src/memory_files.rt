@@ -139,4 +139,15 @@ impl<D: InMemory + Drop + Send> Files for MemoryFiles<D> {
             _ => Err(OpenFault::Disk),
         }
     }
+
+    fn read_start(&self, alloc: Global, path: &str, limit: usize) -> Result<Vec<u8>, OpenFault> {
+        match self.files.get(path) {
+            Some(Kept::Held(disk)) => {
+                let bytes = disk.bytes();
+                let count = bytes.len().min(limit);
+                Ok(Vec::from_slice(alloc, &bytes[..count])?)
+            }
+            _ => Err(OpenFault::Disk),
+        }
+    }
 }

@@ -1,10 +1,11 @@
-ghost use Rattle.std.specs.Prelude.{◌≡◌};
+ghost use Rattle.std.specs.Prelude.{◌≡◌, ◌≤◌, length, IfOk};
 ghost use Rattle.std.specs.IoError.{error_kind};
 ghost use Rattle.cut_files.specs.inside.Faults.{of_kind};
 
 use crate::{Files, Mode, OpenFault};
 use cut_disks::{FileDisk, open_regular};
 use std::alloc::Global;
+use std::fs::File;
 use std::io::{self, ErrorKind, Read};
 
 /// The files of the system. Of them nothing is known: what another program does with a file is not said, and no clause
@@ -53,6 +54,13 @@ impl<'a> Files for SystemFiles<'a> {
             Err(error) => Err(fault_of_file(&error)),
         }
     }
+
+    fn read_start(&self, alloc: Global, path: &str, limit: usize) -> Result<Vec<u8>, OpenFault> {
+        match read_regular_start(self.host, alloc, path, limit) {
+            Ok(bytes) => Ok(bytes),
+            Err(error) => Err(fault_of_file(&error)),
+        }
+    }
 }
 
 /// Why a file was not read: that memory ran out is no fault of the disk.
@@ -68,11 +76,33 @@ fn fault_of_file(error: &io::Error) -> OpenFault
 /// Reads a regular file up to its end. Where a study appends to the file meanwhile, the last bytes may be those of a
 /// slip that is not yet kept.
 fn read_regular(host: &HostRuntime, alloc: Global, path: &str) -> io::Result<Vec<u8>> {
-    let mut file = open_regular(host, path)?;
-    if !file.metadata()?.is_file() {
-        return Err(ErrorKind::Unsupported.into());
-    }
+    let mut file = regular_file(host, path)?;
     let mut bytes = Vec::new(alloc);
     file.read_to_end(&mut bytes)?;
     Ok(bytes)
+}
+
+/// Reads a regular file up to its end, or to a limit. No contract of the system says that no more is read, so no more is kept.
+fn read_regular_start(
+    host: &HostRuntime,
+    alloc: Global,
+    path: &str,
+    limit: usize,
+) -> io::Result<Vec<u8>>
+    ensures { IfOk result (λ bytes. length bytes.items ≤ limit) }
+{
+    let mut file = regular_file(host, path)?.take(limit as u64);
+    let mut bytes = Vec::new(alloc);
+    file.read_to_end(&mut bytes)?;
+    bytes.truncate(limit);
+    Ok(bytes)
+}
+
+/// Opens a regular file to be read. That it is one is also looked at once it is open.
+fn regular_file(host: &HostRuntime, path: &str) -> io::Result<File> {
+    let file = open_regular(host, path)?;
+    if !file.metadata()?.is_file() {
+        return Err(ErrorKind::Unsupported.into());
+    }
+    Ok(file)
 }

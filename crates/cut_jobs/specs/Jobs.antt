@@ -1,17 +1,18 @@
--- What each job leaves on the program's wire and on its errors.
+-- What each job leaves in its files, on the program's wire and on its errors.
 use Rattle.std.specs.Prelude.{◌≡◌, ◌+◌, ◌++◌, ℕ, true, List, ◌∷◌, [], length, map, codes, Option, Some, None}
 use Rattle.std.specs.Prelude.{Result, ⊤}
+use Rattle.std.specs.Borrow.{Bor}
 use Rattle.std.specs.Fmt.{decimal}
 use Rattle.cut_wires.specs.Log.{WireLog}
 use Rattle.cut_progress.specs.Printed.{HasPrinted}
-use Rattle.cut_files.specs.Place.{Unknown}
+use Rattle.cut_files.specs.Place.{Place, StaysElsewhere, while_open}
 use Rattle.cut_machines.specs.JoinCommand.{EndsJoin, NamesRefusedFile}
 use Rattle.cut_share.specs.declared.share.Share as share
 use Rattle.cut_machines.specs.Share.{EndsShare}
 use Rattle.cut_commands.specs.Ask.{EndsAsk}
-use Rattle.cut_commands.specs.Migrate.{EndsMigrate}
+use Rattle.cut_commands.specs.Migrate.{EndsMigrate, StaysBeside}
 use Rattle.cut_commands.specs.Explain.{Explains}
-use Rattle.cut_commands.specs.Run.{EndsCommand, EndsWith, canonical_task, check_task}
+use Rattle.cut_commands.specs.Run.{EndsCommandFrom, EndsFrom, canonical_task, check_task, plan_place}
 use Rattle.cut_commands.specs.Status.{EndsStatus}
 use Rattle.cut_commands.specs.Study.{EndsStudy, plain_task}
 use Rattle.cut_server.specs.Serve.{EndsServing}
@@ -22,23 +23,46 @@ use Rattle.cut_commands.specs.declared.fault.CliFault.{CliFault}
 use Rattle.cut_jobs.specs.Quoted.{quoted}
 use Rattle.cut_jobs.specs.Sending.{IsSent}
 
--- how a job ends
-abbrev pub EndsJob : Job → WireLog → WireLog → Result ⊤ CliFault → Type 0
-EndsJob (Run piece workers None progress) old new result = EndsCommand plain_task old new result
-EndsJob (Run piece workers (Some file) progress) old new result = EndsStudy Unknown Unknown old new result
-EndsJob Check old new result = EndsCommand check_task old new result
-EndsJob Explain old new result = EndsWith Explains old new result
-EndsJob Canonical old new result = EndsCommand canonical_task old new result
-EndsJob (Status file) old new result = EndsStatus Unknown old new result
-EndsJob (Serve socket workers sessions studies folder) old new result = EndsServing studies result old new
-EndsJob (Ask socket) old new result = EndsAsk old new result
-EndsJob (Migrate from to) old new result = EndsMigrate from.now to.now (λ _. Unknown) old new result
-EndsJob (Share index shares file piece workers progress) old new result =
+-- ---- how a job ends, and what stands at each path of its files before and then
+
+-- a run, by the file that it is kept in and that of its plan, if it has any
+abbrev pub EndsRun : Option (Bor (List ℕ)) → Option (Bor (List ℕ)) → (List ℕ → Place) → (List ℕ → Place) → WireLog
+    → WireLog → Result ⊤ CliFault → Type 0
+EndsRun None plan before after old new result =
+    EndsCommandFrom plain_task (plan_place before plan) old new result × (after ≡ before)
+EndsRun (Some file) plan before after old new result =
+    EndsStudy (plan_place (while_open file.now before) plan) (before file.now) (after file.now) old new result
+    × StaysElsewhere file.now before after
+
+-- a share, by its file and that of its plan, if it has one
+abbrev pub EndsShareOn : List ℕ → Option (Bor (List ℕ)) → share.Share → (List ℕ → Place) → (List ℕ → Place) → WireLog
+    → WireLog → Result ⊤ CliFault → Type 0
+EndsShareOn file plan s before after old new result =
+    EndsShare result s (plan_place (while_open file before) plan) (before file) (after file) old new
+    × StaysElsewhere file before after
+
+-- a job. What is not said to change at a path stays; the files of a server are the system's, of which nothing is known
+abbrev pub EndsJob : Job → (List ℕ → Place) → (List ℕ → Place) → WireLog → WireLog → Result ⊤ CliFault → Type 0
+EndsJob (Run piece workers file progress plan) before after old new result =
+    EndsRun file plan before after old new result
+EndsJob (Check plan) before after old new result =
+    EndsCommandFrom check_task (plan_place before plan) old new result × (after ≡ before)
+EndsJob (Explain plan) before after old new result =
+    EndsFrom Explains (plan_place before plan) old new result × (after ≡ before)
+EndsJob (Canonical plan) before after old new result =
+    EndsCommandFrom canonical_task (plan_place before plan) old new result × (after ≡ before)
+EndsJob (Status file) before after old new result = EndsStatus (before file.now) old new result × (after ≡ before)
+EndsJob (Serve socket workers sessions studies folder) before after old new result =
+    EndsServing studies result old new × (after ≡ before)
+EndsJob (Ask socket plan) before after old new result =
+    EndsAsk (plan_place before plan) old new result × (after ≡ before)
+EndsJob (Migrate from to plan) before after old new result =
+    EndsMigrate from.now to.now plan before old new result × StaysBeside from.now to.now before after
+EndsJob (Share index shares file piece workers progress plan) before after old new result =
     (s : share.Share) × (s.index ≡ index) × (s.shares ≡ shares) × (s.block_size ≡ piece)
-    × EndsShare result s Unknown Unknown old new
-EndsJob (Join to from which) old new result =
-    (refused : Option ℕ) × EndsJoin to.now (map (λ s. s.now) from.items) (λ _. Unknown) (λ _. Unknown) old new result
-    refused
+    × EndsShareOn file.now plan s before after old new result
+EndsJob (Join to from which) before after old new result =
+    (refused : Option ℕ) × EndsJoin to.now (map (λ s. s.now) from.items) before after old new result refused
 
 -- the line that says which file is refused, by its place and its path, which is quoted, so that it can't end the line
 abbrev pub file_line : ℕ → List ℕ → List ℕ
@@ -55,8 +79,8 @@ PrintsRefused paths (Some place) old new =
 -- what a job that ends so prints on the errors before that is reported: progress, or which file is refused, where that
 -- is asked for
 abbrev pub PrintsOn : Job → Result ⊤ CliFault → WireLog → WireLog → Type 0
-PrintsOn (Run piece workers file true) ended old new = HasPrinted old new
-PrintsOn (Share index shares file piece workers true) ended old new = HasPrinted old new
+PrintsOn (Run piece workers file true plan) ended old new = HasPrinted old new
+PrintsOn (Share index shares file piece workers true plan) ended old new = HasPrinted old new
 PrintsOn (Join to from true) ended old new =
     (refused : Option ℕ) × (NamesRefusedFile (length from.items) ended refused
     × PrintsRefused (map (λ s. s.now) from.items) refused old new)

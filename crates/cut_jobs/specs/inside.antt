@@ -1,4 +1,3 @@
 -- How the crate keeps its values, and what its private functions promise: no contract of a public function cites it.
 pub mod Jobs
 pub mod Printing
-pub mod Runs

@@ -6,8 +6,9 @@ use crate::run_job::{RunJob, WorkersJob};
 use crate::share_job::ShareJob;
 use crate::study_job::StudyJob;
 use cut_command_line::Job;
-use cut_commands::{CliFault, ask_at, canonical_io, check_io, explain_io, migrate, status};
-use cut_files::SystemFiles;
+use cut_commands::{CliFault, MigratedFiles, PlanSource, ask_at, migrate, status};
+use cut_commands::{canonical_from, check_from, explain_from};
+use cut_files::Files;
 use cut_server::{Capacity, serve_at};
 use cut_share::Share;
 use cut_wires::Wire;
@@ -15,36 +16,49 @@ use std::sync::Wait;
 use std::thread::Threads;
 use std::time::Clock;
 
-/// Does a job over a wire. The files of checkpoints are opened by `host` before anything is read. Progress, and which
+/// The system that the program runs on.
+#[derive(Drop)]
+pub struct System<'a, R> {
+    /// What has its memory, its clocks and its sockets, and the files of a server.
+    pub host: &'a HostRuntime,
+    /// What makes its threads.
+    pub rt: &'a R,
+}
+
+/// Does a job over files and a wire. The files of checkpoints are opened before anything is read. Progress, and which
 /// file is refused, is printed on the errors where it is asked for.
-pub(crate) fn answer<W, E, R>(
-    host: &HostRuntime,
-    rt: &R,
+pub(crate) fn answer<F, W, E, R>(
+    files: &mut F,
+    system: &System<'_, R>,
     job: Job,
     wire: &mut W,
     errors: &mut E,
 ) -> Result<(), CliFault>
 where
+    F: Files,
     W: Wire,
     E: Wire + Send,
     R: Threads + Wait + Clock + Sync,
     requires { IsSizedJob job }
-    ensures ends { EndsJob job.entry (W.log wire.old) (W.log wire.new) result }
+    ensures ends { EndsJob job.entry (F.log files.old) (F.log files.new) (W.log wire.old) (W.log wire.new) result }
     ensures prints { PrintsOn job.entry result (E.log errors.old) (E.log errors.new) }
 {
+    let alloc = system.host.alloc();
     match job {
         Job::Run {
             piece,
             workers,
             checkpoint,
             progress,
+            plan,
         } => {
             let work = WorkersJob::Study(StudyJob {
                 piece,
                 workers,
                 checkpoint,
+                plan,
             });
-            RunJob { work, progress }.run(host, rt, wire, errors)
+            RunJob { work, progress }.run(files, system, wire, errors)
         }
         Job::Share {
             index,
@@ -53,6 +67,7 @@ where
             piece,
             workers,
             progress,
+            plan,
         } => {
             let share = Share {
                 index,
@@ -63,8 +78,9 @@ where
                 share,
                 workers,
                 file,
+                plan,
             });
-            RunJob { work, progress }.run(host, rt, wire, errors)
+            RunJob { work, progress }.run(files, system, wire, errors)
         }
         Job::Join { new, old, which } => {
             let join = JoinJob {
@@ -72,12 +88,14 @@ where
                 old: &old,
                 which,
             };
-            join.run(host, wire, errors)
+            join.run(files, alloc, wire, errors)
         }
-        Job::Check => check_io(host.alloc(), wire),
-        Job::Explain => explain_io(host.alloc(), host, wire),
-        Job::Canonical => canonical_io(host.alloc(), wire),
-        Job::Status { file } => status(&SystemFiles::of(host), host.alloc(), wire, file),
+        Job::Check { plan } => check_from(alloc, PlanSource::of(&*files, plan), wire),
+        Job::Explain { plan } => {
+            explain_from(alloc, system.host, PlanSource::of(&*files, plan), wire)
+        }
+        Job::Canonical { plan } => canonical_from(alloc, PlanSource::of(&*files, plan), wire),
+        Job::Status { file } => status(&*files, alloc, wire, file),
         Job::Serve {
             socket,
             workers,
@@ -90,14 +108,21 @@ where
                 sessions,
                 studies,
             };
-            match serve_at(host, rt, socket, capacity, folder, wire) {
+            match serve_at(system.host, system.rt, socket, capacity, folder, wire) {
                 Ok(_report) => Ok(()),
                 Err(fault) => Err(fault),
             }
         }
-        Job::Ask { socket } => ask_at(host, wire, socket),
-        Job::Migrate { old, new } => {
-            migrate(&mut SystemFiles::of(host), host.alloc(), wire, old, new)
+        Job::Ask { socket, plan } => {
+            ask_at(system.host, PlanSource::of(&*files, plan), wire, socket)
+        }
+        Job::Migrate { old, new, plan } => {
+            let paths = MigratedFiles {
+                from: old,
+                to: new,
+                plan,
+            };
+            migrate(files, alloc, wire, paths)
         }
     }
 }

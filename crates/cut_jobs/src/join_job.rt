@@ -2,7 +2,6 @@
 ghost use Rattle.std.specs.Prelude.{◌≡◌, ◌≤◌, ◌∷◌, ◌++◌, ℕ, Option, [], Some, length, map};
 ghost use Rattle.std.specs.List.{flat_map};
 ghost use Rattle.std.specs.Str.{chars};
-ghost use Rattle.cut_files.specs.Place.{Unknown};
 ghost use Rattle.cut_machines.specs.JoinCommand.{EndsJoin};
 ghost use Rattle.cut_jobs.specs.Jobs.{PrintsRefused, file_line};
 ghost use Rattle.cut_jobs.specs.Quoted.{quoted_char};
@@ -13,10 +12,11 @@ use crate::program::report;
 use crate::quoted::quoted_char;
 use arrayvec::ArrayString;
 use cut_commands::CliFault;
-use cut_files::SystemFiles;
+use cut_files::Files;
 use cut_machines::{Joined, join};
 use cut_wires::{Wire, send_all};
 use itoa::Buffer;
+use std::alloc::Global;
 
 /// The values of a join: the new file, the old ones, and whether the one that is refused is named.
 #[derive(Clone, Copy)]
@@ -29,22 +29,23 @@ pub(crate) struct JoinJob<'a> {
 impl JoinJob<'_> {
     /// Joins the files, and says on the errors which old one is refused, where that is asked for.
     #[tactic(auto, using(crate::proofs::RefusedFiles::file_within))]
-    pub(crate) fn run<W, E>(
+    pub(crate) fn run<F, W, E>(
         &self,
-        host: &HostRuntime,
+        files: &mut F,
+        alloc: Global,
         wire: &mut W,
         errors: &mut E,
     ) -> Result<(), CliFault>
     where
+        F: Files,
         W: Wire,
         E: Wire,
         ensures ends { (refused : Option ℕ) × EndsJoin self.now.new.now (map (λ s. s.now) self.now.old.now)
-            (λ _. Unknown) (λ _. Unknown) (W.log wire.old) (W.log wire.new) result refused }
+            (F.log files.old) (F.log files.new) (W.log wire.old) (W.log wire.new) result refused }
         ensures prints { PrintsFileIf self.now.which self.now.old.now result
             (E.log errors.old) (E.log errors.new) }
     {
-        let mut files = SystemFiles::of(host);
-        let Joined { refused, ended } = join(&mut files, host.alloc(), wire, self.old, self.new);
+        let Joined { refused, ended } = join(files, alloc, wire, self.old, self.new);
         if self.which {
             if let Some(place) = refused {
                 report_refused(place, self.old, errors);

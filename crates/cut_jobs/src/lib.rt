@@ -9,4 +9,5 @@ mod run_job;
 mod share_job;
 mod study_job;
 
+pub use jobs::System;
 pub use program::{end_unopened, end_unread, run_words};

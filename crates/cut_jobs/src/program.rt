@@ -3,9 +3,10 @@ ghost use Rattle.std.specs.Prelude.{map, string_bytes, Err};
 ghost use Rattle.cut_jobs.specs.Program.{EndsProgram, ReportsEnd, ReportsLine, ReportsUnread};
 ghost use Rattle.cut_jobs.specs.Sending.{IsSent};
 
-use crate::jobs::answer;
+use crate::jobs::{System, answer};
 use cut_command_line::{LineFault, parse_line};
 use cut_commands::CliFault;
+use cut_files::Files;
 use cut_journal::JournalFault;
 use cut_wires::{Wire, send_all};
 use std::convert::AsStr;
@@ -20,28 +21,29 @@ const UNREADABLE_LINE: &[u8] = b"error: a word of the command line is not UTF-8\
 /// The program: it does what the words ask for, the first of which is its own name, and returns the
 /// status with which it ends.
 ///
-/// A command reads its plan from `wire` and writes its answer to it; its fault is one line on `errors`, from
-/// which nothing is read, after the lines of progress, or that of a refused file, where these are asked for. Help
-/// goes to `wire`, what is wrong with the words to `errors`, both as clap writes them. The files of checkpoints
-/// are opened by `host`, and the threads of a study are made by `rt`.
-pub fn run_words<R, S, W, E>(
-    host: &HostRuntime,
-    rt: &R,
+/// A command reads its plan from `wire`, or from a file that is named, and writes its answer to `wire`; its fault is one
+/// line on `errors`, from which nothing is read, after the lines of progress, or that of a refused file, where these are
+/// asked for. Help goes to `wire`, what is wrong with the words to `errors`, both as clap writes them. The files of plans and
+/// checkpoints are those of `files`, but for those of a server, which are the system's.
+pub fn run_words<F, R, S, W, E>(
+    files: &mut F,
+    system: &System<'_, R>,
     words: &[S],
     wire: &mut W,
     errors: &mut E,
 ) -> u8
 where
+    F: Files,
     R: Threads + Wait + Clock + Sync,
     S: AsStr,
     W: Wire,
     E: Wire + Send,
-    ensures { EndsProgram (map S.text words.now) (W.log wire.old) (W.log wire.new)
+    ensures { EndsProgram (map S.text words.now) (F.log files.old) (F.log files.new) (W.log wire.old) (W.log wire.new)
         (E.log errors.old) (E.log errors.new) result }
 {
-    match parse_line(host.alloc(), words) {
+    match parse_line(system.host.alloc(), words) {
         Ok(job) => {
-            let ended = answer(host, rt, job, wire, errors);
+            let ended = answer(files, system, job, wire, errors);
             end(ended, errors)
         }
         Err(fault) => end_line(&fault, wire, errors),

@@ -1,8 +1,8 @@
 -- What the command `share` keeps and writes, by what its parts say.
-use Rattle.std.proofs.Common.{◌≡◌, ◌∙◌, ◌++◌, ℕ, List, [], Option, Some, None, Result, Ok, Err, length}
-use Rattle.std.proofs.Common.{take, refl, ap, subst, arith, inl, inr}
+use Rattle.std.proofs.Common.{◌≡◌, ◌∙◌, ◌++◌, ℕ, Bool, List, [], Option, Some, None, Result, Ok, Err, length, nat_lt}
+use Rattle.std.proofs.Common.{take, refl, sym, ap, subst, arith, inl, inr}
 use Rattle.std.specs.Bool.{⊤}
-use Rattle.std.specs.Prelude.{IsSome}
+use Rattle.std.specs.Prelude.{IfErr, IsSome}
 use Rattle.std.proofs.lemmas.List.{take_all}
 use Rattle.cut_plan.specs.Values.{Values}
 use Rattle.cut_disks.specs.Log.{DiskLog, Goes, IsKnown, is_known, on}
@@ -16,12 +16,14 @@ use Rattle.cut_share.specs.declared.share.Share.{Share}
 use Rattle.cut_share.specs.Appending.{Adds}
 use Rattle.cut_share.specs.Running.{AreOfShare, EndsShare}
 use Rattle.cut_wires.specs.Log.{WireLog}
-use Rattle.cut_commands.specs.Run.{IsWritten, LeavesStudy}
+use Rattle.cut_files.specs.Place.{Place}
+use Rattle.cut_commands.specs.Run.{GivesPlanFrom, IsReadAs, IsWritten, LeavesStudy}
 use Rattle.cut_commands.specs.declared.fault.CliFault.{CliFault}
-use Rattle.cut_commands.specs.declared.fault.CliFault.TheVariants.{Memory, Write, Journal, BadSlip}
+use Rattle.cut_commands.specs.declared.fault.CliFault.TheVariants.{Memory, Plan, Read, Write, Journal, BadSlip}
 use Rattle.cut_commands.specs.declared.fault.CliFault.TheVariants.{Checkpoint, WorkMemory}
-use Rattle.cut_commands.proofs.RunLemmas.{leaves_answer, leaves_nothing}
-use Rattle.cut_machines.specs.Share.{AddsTo, EndsKeeping, SayUpTo, fault_of_share}
+use Rattle.cut_commands.proofs.RunLemmas.{ends_unread, leaves_answer, leaves_nothing}
+use Rattle.cut_commands.proofs.Sources.{ends_read, ends_refused_text}
+use Rattle.cut_machines.specs.Share.{AddsTo, EndsKeeping, LeavesUnread, SayUpTo, SharesFrom, disk_faults_after, fault_of_share}
 use Rattle.cut_machines.specs.Share.{share_line, share_task}
 
 not_some : IsSome {T = Slip} None → ⊥
@@ -165,3 +167,80 @@ pub leaves_line : (result : Result ⊤ CliFault) (n : ℕ) (s : Share) (v : Valu
 leaves_line result n s v disk back whole old new kept line is =
     leaves_answer (share_task result s disk back) v whole result old new
     (answers result n s v disk back whole old new kept line is) is
+
+-- ---- how it ends over a disk
+
+-- its plan was not read
+unread_read : (fault : CliFault) (s : Share) (disk : DiskLog) (text : List ℕ) (ended : Bool) → IsReadAs text ended (Err fault)
+    → (plan : Option Place) (old new : WireLog)
+    → LeavesUnread plan fault disk disk old new × (disk.failed ≡ disk_faults_after {T = ⊤} (Err fault) disk.failed)
+unread_read Memory s disk text ended is plan old new = (inl refl, refl)
+unread_read Read s disk text ended is plan old new = (refl, refl)
+unread_read (Plan refusal) s disk text ended is plan old new = (refl, refl)
+unread_read fault s disk text ended is plan old new = absurd is
+
+pub shares_unread : (plan : Option Place) (fault : CliFault) (s : Share) (disk : DiskLog) (old new : WireLog)
+    → GivesPlanFrom plan (Err fault) old new → SharesFrom plan (Err fault) s disk disk old new
+shares_unread None fault s disk old new given =
+    let left = unread_read fault s disk given.text given.ended given.is None old new in
+    inl (record {
+      command = ends_unread (share_task (Err fault) s disk disk) fault old new given;
+      unread = left.0;
+      known = refl;
+      faults = left.1;
+    })
+shares_unread (Some place) fault s disk old new given = elim given [
+  | inl read ↦
+      (let left = unread_read fault s disk read.0 (nat_lt (length read.0) 65537) read.1.1 (Some place) old new in
+      inl (record {
+        command = ends_refused_text (share_task (Err fault) s disk disk) place fault old new read.0 read.1.0 read.1.1 read.1.2;
+        unread = left.0;
+        known = refl;
+        faults = left.1;
+      }))
+  | inr unread ↦ inr (refl, unread)
+]
+
+module _ (plan : Option Place) (s : Share) (v : Values) (disk back : DiskLog) (old mid : WireLog)
+    (given : GivesPlanFrom plan (Ok v) old mid) (known : is_known back ≡ is_known disk) where
+  -- the share was not run to its end
+  unread_kept : (fault : CliFault) → EndsKeeping (Err fault) s v disk back → LeavesUnread plan fault disk back old mid
+  unread_kept Read kept = absurd kept
+  unread_kept (Plan refusal) kept = absurd kept
+  unread_kept Memory kept = inr (v, (given, kept))
+  unread_kept fault kept = tt
+
+  pub shares_none : (fault : CliFault) → EndsKeeping (Err fault) s v disk back
+      → back.failed ≡ disk_faults_after {T = ℕ} (Err fault) disk.failed
+      → SharesFrom plan (Err fault) s disk back old mid
+  shares_none fault kept faults = inl (record {
+    command = ends_read (share_task (Err fault) s disk back) plan v (Err fault) old mid mid given
+        (leaves_none fault s v disk back mid kept);
+    unread = unread_kept fault kept;
+    known = known;
+    faults = faults ∙ same_faults fault disk.failed;
+  })
+    where
+      same_faults : (fault : CliFault) (n : ℕ)
+          → disk_faults_after {T = ℕ} (Err fault) n ≡ disk_faults_after {T = ⊤} (Err fault) n
+      same_faults fault n = grind arith
+
+  -- it was
+  written : (result : Result ⊤ CliFault) (whole : List ℕ) (new : WireLog) → IsWritten whole result mid new → (n : ℕ)
+      → IfErr result (λ fault. LeavesUnread plan fault disk back old new) × (disk_faults_after result n ≡ n)
+  written (Ok done) whole new is n = (tt, refl)
+  written (Err (Write fault)) whole new is n = (tt, refl)
+  written (Err fault) whole new is n = absurd is
+
+  pub shares_line : (result : Result ⊤ CliFault) (n : ℕ) (whole : List ℕ) (new : WireLog) → EndsKeeping (Ok n) s v disk back
+      → back.failed ≡ disk.failed → whole ≡ share_line s n → IsWritten whole result mid new
+      → SharesFrom plan result s disk back old new
+  shares_line result n whole new kept faults line is =
+      let left = written result whole new is disk.failed in
+      inl (record {
+        command = ends_read (share_task result s disk back) plan v result old mid new given
+            (leaves_line result n s v disk back whole mid new kept line is);
+        unread = left.0;
+        known = known;
+        faults = faults ∙ sym left.1;
+      })

@@ -22,7 +22,7 @@ use Rattle.cut_share.specs.Running.{AreOfShare, AreWhole, IsNotDone}
 use Rattle.cut_share.specs.Share.{trials_of_share}
 use Rattle.cut_wires.specs.Log.{WireLog}
 use Rattle.cut_commands.specs.Faults.{fault_of_files}
-use Rattle.cut_commands.specs.Run.{EndsCommand, GivesPlan}
+use Rattle.cut_commands.specs.Run.{CommandAnswers, EndsRead, GivesPlanFrom, IsUnread}
 use Rattle.cut_commands.specs.Study.{MayStop}
 use Rattle.cut_commands.specs.Task.{Task}
 use Rattle.cut_commands.specs.declared.fault.CliFault.{CliFault}
@@ -106,12 +106,12 @@ share_task ended s disk back = record {
 
 -- the disk is untouched where a read failed or the text is no plan, and also where memory ran out, if the plan was
 -- not read then
-abbrev pub LeavesUnread : CliFault → DiskLog → DiskLog → WireLog → WireLog → Type 0
-LeavesUnread Read disk back old new = back ≡ disk
-LeavesUnread (Plan refusal) disk back old new = back ≡ disk
-LeavesUnread Memory disk back old new =
-    (back ≡ disk) ⊎ ((v : Values) × (GivesPlan (Ok v) old new × Opens v disk back))
-LeavesUnread fault disk back old new = ⊤
+abbrev pub LeavesUnread : Option Place → CliFault → DiskLog → DiskLog → WireLog → WireLog → Type 0
+LeavesUnread plan Read disk back old new = back ≡ disk
+LeavesUnread plan (Plan refusal) disk back old new = back ≡ disk
+LeavesUnread plan Memory disk back old new =
+    (back ≡ disk) ⊎ ((v : Values) × (GivesPlanFrom plan (Ok v) old new × Opens v disk back))
+LeavesUnread plan fault disk back old new = ⊤
 
 -- how the steps between the reading of a plan and the answer end: the share has n trials, and all are kept; or as
 -- the command ends
@@ -136,20 +136,31 @@ fault_of_share share.WorkMemory = WorkMemory
 fault_of_share share.OtherPlan = Journal journal.OtherPlan
 fault_of_share share.Broken = Journal journal.Broken
 
--- how the command ends over a disk, and what it leaves there
-pub record SharesOn (ended : Result ⊤ CliFault) (s : Share) (disk back : DiskLog) (old new : WireLog) : Type 0 where
-  pub command : EndsCommand (share_task ended s disk back) old new ended
-  pub unread : IfErr ended (λ fault. LeavesUnread fault disk back old new)
+-- how the command ends over a disk, by where its plan is read from, and what it leaves there
+pub record SharesOn (plan : Option Place) (ended : Result ⊤ CliFault) (s : Share) (disk back : DiskLog) (old new : WireLog)
+    : Type 0 where
+  pub command : EndsRead (CommandAnswers (share_task ended s disk back)) plan old new ended
+  pub unread : IfErr ended (λ fault. LeavesUnread plan fault disk back old new)
   pub known : is_known back ≡ is_known disk
   pub faults : back.failed ≡ disk_faults_after ended disk.failed
 
+-- the plan's file was not read
+abbrev pub HasUnread : Option Place → Result ⊤ CliFault → WireLog → WireLog → Type 0
+HasUnread None ended old new = ⊥
+HasUnread (Some place) ended old new = IsUnread place ended old new
+
+-- how the command ends over a disk, which is untouched where the plan's file was not read
+abbrev pub SharesFrom : Option Place → Result ⊤ CliFault → Share → DiskLog → DiskLog → WireLog → WireLog → Type 0
+SharesFrom plan ended s disk back old new =
+    SharesOn plan ended s disk back old new ⊎ ((back ≡ disk) × HasUnread plan ended old new)
+
 -- ---- over a file
 
--- how it ends over what stands at a path, and what stands there then: the file was opened, and shut with what its disk
+-- how it ends over what stands at a path, by where its plan is read from, and what stands there then: the file was opened, and shut with what its disk
 -- holds; or it was not opened, and nothing was read or written
-abbrev pub EndsShare : Result ⊤ CliFault → Share → Place → Place → WireLog → WireLog → Type 0
-EndsShare ended s place after old new =
+abbrev pub EndsShare : Result ⊤ CliFault → Share → Option Place → Place → Place → WireLog → WireLog → Type 0
+EndsShare ended s plan place after old new =
     ((disk : DiskLog) × (back : DiskLog) × (OpensAs Create disk place × (after ≡ closed back place)
-    × SharesOn ended s disk back old new))
+    × SharesFrom plan ended s disk back old new))
     ⊎ ((fault : OpenFault) × (MayNotOpen Create fault place × (after ≡ place) × (ended ≡ Err (fault_of_files fault))
     × (new ≡ old)))

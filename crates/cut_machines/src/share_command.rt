@@ -1,12 +1,12 @@
-ghost use Rattle.std.specs.Prelude.{◌≡◌, ◌≤◌, IfErr};
+ghost use Rattle.std.specs.Prelude.{◌≡◌, ◌≤◌};
 ghost use Rattle.cut_disks.specs.Log.{is_known};
-ghost use Rattle.cut_files.specs.Place.{StaysElsewhere};
-ghost use Rattle.cut_commands.specs.Run.{EndsCommand};
-ghost use Rattle.cut_machines.specs.Share.{EndsKeeping, EndsShare, LeavesUnread, share_task};
+ghost use Rattle.cut_files.specs.Place.{StaysElsewhere, while_open};
+ghost use Rattle.cut_commands.specs.Run.{plan_place, source_place};
+ghost use Rattle.cut_machines.specs.Share.{EndsKeeping, EndsShare, SharesFrom};
 ghost use Rattle.cut_machines.specs.Share.{disk_faults_after, fault_of_share};
 
 use crate::share_answer::share_line;
-use cut_commands::{CliFault, read_plan, write_answer};
+use cut_commands::{CliFault, PlanSource, write_answer};
 use cut_disks::Disk;
 use cut_files::{Files, Mode};
 use cut_journal::{Journal, JournalFault};
@@ -29,13 +29,17 @@ pub struct ShareWork<'a, G> {
     pub gate: &'a G,
     /// The path of the file that keeps the share.
     pub file: &'a str,
+    /// The path of the file that the plan is read from, if it is not the wire.
+    pub plan: Option<&'a str>,
     pub ghost few: { (1 ≤ workers) × (workers ≤ 64) },
 }
 
 /// Reads a plan from a wire, runs the trials of a share that the file of the work lacks, keeps them there, and writes the
 /// line `share I of N: n of n`, where n is how many trials the share has. All of them are held then.
 ///
-/// The file is opened before anything is read, and made where there is none. Its journal is opened once the plan is read:
+/// The file is opened before anything is read, and made where there is none. The file of a plan is read after that, where
+/// the wire would be read; where it is not read, the share's file is left as it was opened. The journal is opened once the
+/// plan is read:
 /// it holds one of the plan, or it is unclaimed, and then a journal is made. Where what stands at the path is known, the
 /// contract says which slips were found and which were added, at each end: at `Ok`, and where the write of the answer
 /// failed, exactly the trials of the share that were lacking; none at a fault of the opening or a slip that is bad; some
@@ -43,7 +47,7 @@ pub struct ShareWork<'a, G> {
 /// and some first ones of those that were added. WorkMemory comes where memory ran out once the journal was opened.
 ///
 /// At most 65,537 bytes are read, and nothing is written at a fault other than that of a write. Checkpoint, and the
-/// fault Disk of the journal, come exactly where a call of the disk failed, or the file was not opened.
+/// fault Disk of the journal, come exactly where a call of the disk failed, or a file was not opened or not read.
 pub fn share<F, W, G, R>(
     files: &mut F,
     rt: &R,
@@ -56,15 +60,42 @@ where
     W: Wire,
     G: Gate + Sync,
     R: Threads + Wait + Sync,
-    ensures ends { EndsShare result work.entry.share (F.log files.old work.entry.file.now)
-        (F.log files.new work.entry.file.now) (W.log wire.old) (W.log wire.new) }
+    ensures ends { EndsShare result work.entry.share
+        (plan_place (while_open work.entry.file.now (F.log files.old)) work.entry.plan)
+        (F.log files.old work.entry.file.now) (F.log files.new work.entry.file.now) (W.log wire.old) (W.log wire.new) }
     ensures elsewhere { StaysElsewhere work.entry.file.now (F.log files.old) (F.log files.new) }
 {
     let path = work.file;
     let disk = files.open(path, Mode::Create)?;
-    let Shared { disk, ended } = share_on(rt, alloc, wire, work, disk);
+    let Shared { disk, ended } = share_on(rt, alloc, wire, work.on(&*files, disk));
     files.close(path, disk);
     ended
+}
+
+/// A share over a disk.
+#[derive(Drop)]
+struct DiskShare<'a, G, D, F> {
+    /// Which one, and how it is worked on.
+    work: ShareWork<'a, G>,
+    /// The disk that keeps it.
+    disk: D,
+    /// Where its plan is read from.
+    source: PlanSource<'a, F>,
+}
+
+impl<'a, G> ShareWork<'a, G> {
+    /// The share on a disk, whose plan is read of these files where it has a path.
+    fn on<F: Files, D>(self, files: &'a F, disk: D) -> DiskShare<'a, G, D, F>
+        ensures { (result.work ≡ self.entry) × (result.disk ≡ disk)
+            × (source_place F.log result.source ≡ plan_place (F.log files.now) self.entry.plan) }
+    {
+        let source = PlanSource::of(files, self.plan);
+        DiskShare {
+            work: self,
+            disk,
+            source,
+        }
+    }
 }
 
 /// How a share ended, and the disk that it was given.
@@ -77,27 +108,24 @@ struct Shared<D> {
 }
 
 /// Runs a share over a disk.
-fn share_on<W, D, G, R>(
+fn share_on<F, W, D, G, R>(
     rt: &R,
     alloc: Global,
     wire: &mut W,
-    work: ShareWork<'_, G>,
-    disk: D,
+    share: DiskShare<'_, G, D, F>,
 ) -> Shared<D>
 where
+    F: Files,
     W: Wire,
     D: Disk,
     G: Gate + Sync,
     R: Threads + Wait + Sync,
-    ensures ends { EndsCommand (share_task result.ended work.entry.share (D.log disk) (D.log result.disk))
-        (W.log wire.old) (W.log wire.new) result.ended }
-    ensures unread { IfErr result.ended (λ fault. LeavesUnread fault (D.log disk) (D.log result.disk)
-        (W.log wire.old) (W.log wire.new)) }
-    ensures known { is_known (D.log result.disk) ≡ is_known (D.log disk) }
-    ensures faults { (D.log result.disk).failed ≡ disk_faults_after result.ended (D.log disk).failed }
+    ensures { SharesFrom (source_place F.log share.entry.source) result.ended share.entry.work.share
+        (D.log share.entry.disk) (D.log result.disk) (W.log wire.old) (W.log wire.new) }
 {
+    let DiskShare { work, disk, source } = share;
     let share = work.share;
-    let plan = match read_plan(alloc, wire) {
+    let plan = match source.read_plan(alloc, wire) {
         Ok(plan) => plan,
         Err(fault) => {
             return Shared {

@@ -1,8 +1,9 @@
 -- The commands of the program, with their words, options and flags.
 use Rattle.std.specs.Prelude.{◌++◌, ℕ, List, [], ◌∷◌, true, codes, pos, Some, map, fold}
-use Rattle.cut_options.specs.declared.limits.TheConstants.{LARGEST_PIECE, MOST_CHECKPOINTS, MOST_OF_EACH, MOST_WORKERS}
+use Rattle.cut_options.specs.declared.limits.TheConstants.{LARGEST_PIECE, MOST_OF_EACH, MOST_WORKERS}
+use Rattle.clap.specs.Lexer.{usize_max}
 use Rattle.clap.specs.Words.{App, Rule, Text, new_app, new_rule, with_rule, with_subcommand}
-use Rattle.clap.specs.declared.builder.action.ArgAction.TheVariants.{SetTrue}
+use Rattle.clap.specs.declared.builder.action.ArgAction.TheVariants.{Append, SetTrue}
 use Rattle.clap.specs.declared.builder.value_parser.ValueParser.TheVariants.{Signed}
 
 -- a word that has to be given
@@ -33,21 +34,28 @@ counts =
     map (λ (name : Text). record (number_rule name MOST_OF_EACH []) { required = true })
     (codes "workers" ∷ codes "sessions" ∷ codes "studies" ∷ [])
 
--- the words `OLD..`: the files of 1 to 1,000 checkpoints
+-- the words `OLD..`: the files of checkpoints, one at least, also where an option stands between them
 abbrev pub files_rule : Rule
-files_rule =
-    record (word_rule (codes "old")) { range = Some (record { start_inclusive = 1; end_inclusive = MOST_CHECKPOINTS }) }
+files_rule = record (word_rule (codes "old")) {
+  action = Some Append;
+  range = Some (record { start_inclusive = 1; end_inclusive = usize_max });
+}
+
+-- the word `PLAN`, which may be left out: the file that the plan is read from
+abbrev pub plan_rule : Rule
+plan_rule = record (new_rule (codes "plan")) { value_names = 1 }
 
 -- the subcommands: the name of each, and its words in their order, its options and its flags
 abbrev pub subcommands : List (Text × List Rule)
 subcommands =
-    (codes "run", sizes ++ option_rule (codes "checkpoint") ∷ flag_rule (codes "progress") ∷ [])
-    ∷ (codes "check", []) ∷ (codes "explain", []) ∷ (codes "canonical", [])
+    (codes "run", sizes ++ option_rule (codes "checkpoint") ∷ flag_rule (codes "progress") ∷ plan_rule ∷ [])
+    ∷ (codes "check", plan_rule ∷ []) ∷ (codes "explain", plan_rule ∷ []) ∷ (codes "canonical", plan_rule ∷ [])
     ∷ (codes "status", word_rule (codes "file") ∷ [])
     ∷ (codes "serve", word_rule (codes "socket") ∷ counts ++ option_rule (codes "dir") ∷ [])
-    ∷ (codes "ask", word_rule (codes "socket") ∷ [])
-    ∷ (codes "migrate", word_rule (codes "old") ∷ word_rule (codes "new") ∷ [])
-    ∷ (codes "share", word_rule (codes "share") ∷ word_rule (codes "file") ∷ sizes ++ flag_rule (codes "progress") ∷ [])
+    ∷ (codes "ask", word_rule (codes "socket") ∷ option_rule (codes "plan") ∷ [])
+    ∷ (codes "migrate", word_rule (codes "old") ∷ word_rule (codes "new") ∷ option_rule (codes "plan") ∷ [])
+    ∷ (codes "share", word_rule (codes "share") ∷ word_rule (codes "file")
+    ∷ sizes ++ flag_rule (codes "progress") ∷ option_rule (codes "plan") ∷ [])
     ∷ (codes "join", word_rule (codes "new") ∷ files_rule ∷ flag_rule (codes "which") ∷ []) ∷ []
 
 -- the program as clap sees it: it has a version, needs one of its subcommands, and without a word it shows its help

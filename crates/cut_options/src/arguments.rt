@@ -2,12 +2,15 @@
 
 ghost use Rattle.std.specs.Prelude.{◌≡◌, false};
 ghost use Rattle.clap.specs.Words.{rule_of};
-ghost use Rattle.cut_options.specs.Options.{files_rule, flag_rule, option_rule, word_rule};
+ghost use Rattle.cut_options.specs.Options.{files_rule, flag_rule, option_rule, plan_rule, word_rule};
 ghost use Rattle.cut_options.specs.inside.Options.{argument_rule, count_rule, piece_rule, workers_rule};
 
-use crate::limits::MOST_CHECKPOINTS;
 use clap::{Arg, ArgAction};
 use std::alloc::Global;
+
+/// What the help says of the file of a plan.
+pub(crate) const PLAN_HELP: &str =
+    "The file that the plan is read from, in place of standard input";
 
 /// An argument of a command.
 #[derive(Clone, Copy)]
@@ -20,6 +23,8 @@ pub(crate) enum Argument<'a> {
     },
     /// The words that name the files of checkpoints.
     Files,
+    /// The word that names the file of a plan, which may be left out.
+    Plan,
     /// An option with a value.
     Value {
         name: &'a str,
@@ -55,6 +60,7 @@ impl<'a> Argument<'a> {
                 help,
             } => needed_word(alloc, name, value_name, help),
             Argument::Files => files_word(alloc),
+            Argument::Plan => plan_word(alloc),
             Argument::Value {
                 name,
                 value_name,
@@ -140,13 +146,23 @@ fn workers_option<'a>(alloc: Global) -> Arg<'a>
         .help("How many threads work on the study, from 1 to 64")
 }
 
-/// The words that name the files of checkpoints.
+/// The word that names the file of a plan.
+fn plan_word<'a>(alloc: Global) -> Arg<'a>
+    ensures rule { rule_of result ≡ plan_rule }
+    ensures local { result.global ≡ false }
+{
+    Arg::new(alloc, "plan").value_name("PLAN").help(PLAN_HELP)
+}
+
+/// The words that name the files of checkpoints, which may stand between options. How many there are at most, clap would say of
+/// those that stand side by side.
 fn files_word<'a>(alloc: Global) -> Arg<'a>
     ensures rule { rule_of result ≡ files_rule }
     ensures local { result.global ≡ false }
 {
     Arg::new(alloc, "old")
-        .num_args(1..=MOST_CHECKPOINTS)
+        .num_args(1..)
+        .action(ArgAction::Append)
         .value_name("OLD")
         .required(true)
         .help("The checkpoints that are joined, at most 1000, which are only read")

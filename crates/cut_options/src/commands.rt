@@ -5,38 +5,39 @@ ghost use Rattle.clap.specs.Words.{app_of};
 ghost use Rattle.cut_options.specs.Options.{program_app};
 ghost use Rattle.cut_options.specs.inside.Options.{bare_app, with_command};
 
-use crate::arguments::Argument;
+use crate::arguments::{Argument, PLAN_HELP};
 use clap::Command;
 use std::alloc::{AllocError, Global};
 
 /// What `--version` prints after the program's name: its version, and that of the kit that it is proved with.
 const VERSION: &str = "0.9.0 (proved with rattle-kit-13f)";
 
-/// What follows the help of each command: an example, and where to read more.
-const GUIDE: &str = "A plan is read from standard input. See docs/GUIDE.md.";
+/// What follows the help of the program: where a plan is read from, and where to read more.
+const GUIDE: &str =
+    "A plan is read from a file that is named, or from standard input. See docs/GUIDE.md.";
 
 const RUN_EXAMPLE: &str =
-    "Example: cutlab run --workers 4 --checkpoint study.cut < plan.json\nThe plan is awaited on standard input, also where that is a terminal: Ctrl-D ends it.\nSee docs/GUIDE.md.";
+    "Example: cutlab run --workers 4 --checkpoint study.cut plan.json\nWithout PLAN it is awaited on standard input, also where that is a terminal: Ctrl-D ends it.\nSee docs/GUIDE.md.";
 
-const CHECK_EXAMPLE: &str = "Example: cutlab check < plan.json\nSee docs/GUIDE.md.";
+const CHECK_EXAMPLE: &str = "Example: cutlab check plan.json\nSee docs/GUIDE.md.";
 
-const EXPLAIN_EXAMPLE: &str = "Example: cutlab explain < plan.json\nSee docs/GUIDE.md.";
+const EXPLAIN_EXAMPLE: &str = "Example: cutlab explain plan.json\nSee docs/GUIDE.md.";
 
 const CANONICAL_EXAMPLE: &str =
-    "Example: cutlab canonical < plan.json > canonical.json\nSee docs/GUIDE.md.";
+    "Example: cutlab canonical plan.json > canonical.json\nSee docs/GUIDE.md.";
 
 const STATUS_EXAMPLE: &str = "Example: cutlab status study.cut\nSee docs/GUIDE.md.";
 
 const SERVE_EXAMPLE: &str =
     "Example: cutlab serve cutlab.sock --workers 4 --sessions 2 --studies 2 --dir studies\nSee docs/GUIDE.md.";
 
-const ASK_EXAMPLE: &str = "Example: cutlab ask cutlab.sock < plan.json\nSee docs/GUIDE.md.";
+const ASK_EXAMPLE: &str = "Example: cutlab ask cutlab.sock --plan plan.json\nSee docs/GUIDE.md.";
 
 const MIGRATE_EXAMPLE: &str =
-    "Example: cutlab migrate study.cut study2.cut < plan.json\nSee docs/GUIDE.md.";
+    "Example: cutlab migrate study.cut study2.cut --plan plan.json\nSee docs/GUIDE.md.";
 
 const SHARE_EXAMPLE: &str =
-    "Example: cutlab share 2/8 --workers 4 share2.cut < plan.json\nAll shares of a study take one and the same --piece.\nSee docs/GUIDE.md.";
+    "Example: cutlab share 2/8 --workers 4 share2.cut --plan plan.json\nAll shares of a study take one and the same --piece.\nSee docs/GUIDE.md.";
 
 const JOIN_EXAMPLE: &str =
     "Example: cutlab join study.cut share1.cut share2.cut < plan.json\nAll shares of a study take one and the same --piece.\nSee docs/GUIDE.md.";
@@ -48,8 +49,18 @@ const PROGRESS_HELP: &str =
 /// What the help says of the word `SOCKET`.
 const SOCKET_HELP: &str = "The path of the server's socket";
 
+/// The option that names the file of a plan.
+const PLAN_OPTION: Argument<'static> = Argument::Value {
+    name: "plan",
+    value_name: "FILE",
+    help: PLAN_HELP,
+};
+
 /// How `share` is used.
-pub const SHARE_USAGE: &str = "cutlab share [OPTIONS] <I/N> <FILE> < PLAN";
+pub const SHARE_USAGE: &str = "cutlab share [OPTIONS] <I/N> <FILE>";
+
+/// How `join` is used.
+pub const JOIN_USAGE: &str = "cutlab join [OPTIONS] <NEW> <OLD>... < PLAN";
 
 /// A command: its name, how it is used, what its help says before its arguments and after them, and these arguments.
 #[derive(Clone, Copy)]
@@ -64,7 +75,7 @@ struct Described<'a> {
 /// The command `run`.
 const RUN: Described<'static> = Described {
     name: "run",
-    usage: "cutlab run [OPTIONS] < PLAN",
+    usage: "cutlab run [OPTIONS] [PLAN]",
     about: "Read a plan and print its table",
     example: RUN_EXAMPLE,
     args: &[
@@ -79,34 +90,35 @@ const RUN: Described<'static> = Described {
             name: "progress",
             help: PROGRESS_HELP,
         },
+        Argument::Plan,
     ],
 };
 
 /// The command `check`.
 const CHECK: Described<'static> = Described {
     name: "check",
-    usage: "cutlab check < PLAN",
+    usage: "cutlab check [PLAN]",
     about: "Read a plan and print its cells, its trials and the quorum",
     example: CHECK_EXAMPLE,
-    args: &[],
+    args: &[Argument::Plan],
 };
 
 /// The command `explain`.
 const EXPLAIN: Described<'static> = Described {
     name: "explain",
-    usage: "cutlab explain < PLAN",
+    usage: "cutlab explain [PLAN]",
     about: "Read a plan and say in words what is right or wrong with it",
     example: EXPLAIN_EXAMPLE,
-    args: &[],
+    args: &[Argument::Plan],
 };
 
 /// The command `canonical`.
 const CANONICAL: Described<'static> = Described {
     name: "canonical",
-    usage: "cutlab canonical < PLAN",
+    usage: "cutlab canonical [PLAN]",
     about: "Read a plan and print its canonical text",
     example: CANONICAL_EXAMPLE,
-    args: &[],
+    args: &[Argument::Plan],
 };
 
 /// The command `status`.
@@ -157,20 +169,23 @@ const SERVE: Described<'static> = Described {
 /// The command `ask`.
 const ASK: Described<'static> = Described {
     name: "ask",
-    usage: "cutlab ask <SOCKET> < PLAN",
+    usage: "cutlab ask [OPTIONS] <SOCKET>",
     about: "Read a plan, ask a server for its table and print it",
     example: ASK_EXAMPLE,
-    args: &[Argument::Word {
-        name: "socket",
-        value_name: "SOCKET",
-        help: SOCKET_HELP,
-    }],
+    args: &[
+        Argument::Word {
+            name: "socket",
+            value_name: "SOCKET",
+            help: SOCKET_HELP,
+        },
+        PLAN_OPTION,
+    ],
 };
 
 /// The command `migrate`.
 const MIGRATE: Described<'static> = Described {
     name: "migrate",
-    usage: "cutlab migrate <OLD> <NEW> < PLAN",
+    usage: "cutlab migrate [OPTIONS] <OLD> <NEW>",
     about: "Move a checkpoint of version 1 to a new one of version 2",
     example: MIGRATE_EXAMPLE,
     args: &[
@@ -184,6 +199,7 @@ const MIGRATE: Described<'static> = Described {
             value_name: "NEW",
             help: "The file of the new checkpoint, which holds no study",
         },
+        PLAN_OPTION,
     ],
 };
 
@@ -210,13 +226,14 @@ const SHARE: Described<'static> = Described {
             name: "progress",
             help: PROGRESS_HELP,
         },
+        PLAN_OPTION,
     ],
 };
 
 /// The command `join`.
 const JOIN: Described<'static> = Described {
     name: "join",
-    usage: "cutlab join [OPTIONS] <NEW> <OLD>... < PLAN",
+    usage: JOIN_USAGE,
     about: "Join the checkpoints of a plan's study in a new one, and print how many slips it has",
     example: JOIN_EXAMPLE,
     args: &[

@@ -5,5 +5,5 @@ mod arguments;
 mod commands;
 mod limits;
 
-pub use commands::{SHARE_USAGE, program_commands};
+pub use commands::{JOIN_USAGE, SHARE_USAGE, program_commands};
 pub use limits::{LARGEST_PIECE, MOST_CHECKPOINTS, MOST_OF_EACH, MOST_SHARES, MOST_WORKERS};

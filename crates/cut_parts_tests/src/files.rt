@@ -37,6 +37,22 @@ fn reads<F: Files>(files: &F, alloc: Global, path: &str, wanted: &str) -> bool {
     }
 }
 
+/// Whether no more than these first bytes, up to a limit, are read at a path.
+fn starts_so<F: Files>(files: &F, alloc: Global, path: &str, limit: usize, wanted: &str) -> bool {
+    match files.read_start(alloc, path, limit) {
+        Ok(bytes) => bytes.as_slice() == wanted.as_bytes(),
+        Err(_) => false,
+    }
+}
+
+/// Whether a file of the bytes `ab` is read up to each limit.
+fn is_cut<F: Files>(files: &F, alloc: Global, path: &str) -> bool {
+    starts_so(files, alloc, path, 0, "")
+        && starts_so(files, alloc, path, 1, "a")
+        && starts_so(files, alloc, path, 2, "ab")
+        && starts_so(files, alloc, path, 70_000, "ab")
+}
+
 /// Whether nothing is opened and nothing read at a path.
 fn is_refused<F: Files>(files: &mut F, alloc: Global, path: &str, mode: Mode) -> bool {
     match files.open(path, mode) {
@@ -44,7 +60,11 @@ fn is_refused<F: Files>(files: &mut F, alloc: Global, path: &str, mode: Mode) ->
             drop(disk);
             false
         }
-        Err(fault) => fault == OpenFault::Disk && files.read(alloc, path) == Err(OpenFault::Disk),
+        Err(fault) => {
+            fault == OpenFault::Disk
+                && files.read(alloc, path) == Err(OpenFault::Disk)
+                && files.read_start(alloc, path, 1) == Err(OpenFault::Disk)
+        }
     }
 }
 
@@ -53,7 +73,7 @@ fn are_files<F: Files>(files: &mut F, alloc: Global, path: &str) -> Result<bool,
     let was_absent = is_refused(files, alloc, path, Mode::Existing)
         && is_refused(files, alloc, path, Mode::Existing);
     let is_written = write(files, path)?;
-    let is_read = reads(files, alloc, path, "ab");
+    let is_read = reads(files, alloc, path, "ab") && is_cut(files, alloc, path);
     let is_once = !opens_twice(files, path)? && !opens_twice(files, path)?;
     Ok(was_absent && is_written && is_read && is_once && reads(files, alloc, path, "ab"))
 }

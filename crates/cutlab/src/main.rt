@@ -5,7 +5,8 @@
 mod stand_ins;
 
 use crate::stand_ins::StandIns;
-use cut_jobs::{end_unopened, end_unread, run_words};
+use cut_files::SystemFiles;
+use cut_jobs::{System, end_unopened, end_unread, run_words};
 use cut_wires::StreamWire;
 use std::alloc::Global;
 use std::env::Env;
@@ -22,7 +23,9 @@ fn main(rt: HostRuntime) -> ExitCode {
         Err(error) => return ExitCode::from(end_unread(error.kind(), &mut errors)),
     };
     let mut wire = StreamWire::new(rt.stdin(), rt.stdout());
-    ExitCode::from(run_words(&rt, &rt, &words, &mut wire, &mut errors))
+    let mut files = SystemFiles::of(&rt);
+    let system = System { host: &rt, rt: &rt };
+    ExitCode::from(run_words(&mut files, &system, &words, &mut wire, &mut errors))
 }
 
 /// The words of the command line, the program's name first.

@@ -226,6 +226,65 @@ class Checkpoints(ProgramCases):
             self.expect(line, refused("20 Disk"), found)
 
 
+class PlanFiles(ProgramCases):
+    """Plans that are named by their files, which stay as they are."""
+
+    # Each command with a plan's file.
+    COMMANDS = "run {0}|check {0}|explain {0}|canonical {0}|run --checkpoint a.cut {0}|share 1/1 b.cut --plan {0}"
+
+    def answer(self, line: str, text: bytes) -> Ended:
+        """How a command ends that is given this text, but for the time of an estimate."""
+        output, errors, status = self.program.run(*line.split(), text=text)
+        return Ended(re.sub("(?m)^.*processor.*\n", "", output), errors, status)
+
+    def test_plan_files(self) -> None:
+        """Each command says of a file what it says of the same text on its input, of which it reads nothing then."""
+        self.file("plan.json").write_bytes(PLAN)
+        for line in self.COMMANDS.split("|"):
+            wanted = self.answer(line.format("").replace("--plan ", ""), PLAN)
+            self.expect(line, 0, wanted.status)
+            self.expect(line, wanted, self.answer(line.format("plan.json"), b"no plan"))
+        self.ends("run --piece 1 --checkpoint old.cut plan.json", TABLE, b"")
+        self.ends("migrate old.cut new.cut --plan plan.json", "migrated 2\n", b"")
+        self.expect("the plan's file", PLAN, self.file("plan.json").read_bytes())
+
+    def test_asked(self) -> None:
+        self.file("plan.json").write_bytes(PLAN)
+        server = self.served()
+        while not self.file("socket").exists():
+            time.sleep(0.01)
+        self.ends("ask socket --plan plan.json", TABLE, b"no plan")
+        self.expect("that server", Ended("accepted 2\n"), end_of(server))
+
+    def test_refused(self) -> None:
+        """Files that hold no plan, that are too long, and what is no file, which nobody waits for."""
+        self.file("folder").mkdir()
+        os.mkfifo(self.file("pipe"))
+        texts = {"bad.json": (b"{}", "4 MissingField copies"), "empty.json": (b"", "1 NotJson")}
+        sizes = {65_536: "1 NotJson", 65_537: "19 PlanTooLong", 70_000: "19 PlanTooLong"}
+        texts |= {f"{size}.json": (b" " * size, fault) for size, fault in sizes.items()}
+        faults = {name: refused(fault, 3) for name, (_, fault) in texts.items()}
+        faults |= {name: refused("20 Disk") for name in ("folder", "pipe", "none.json", "/dev/null")}
+        for name, (text, _) in texts.items():
+            self.file(name).write_bytes(text)
+        for name, wanted in faults.items():
+            for line in ("run {0}", "check {0}", "canonical {0}", "share 1/1 share.cut --plan {0}"):
+                found: Ended | str = "it waits"
+                try:
+                    found = self.program.run(*line.format(name).split(), text=PLAN, limit=10)
+                except subprocess.TimeoutExpired:
+                    pass
+                self.expect(line.format(name), wanted, found)
+
+    def test_own_checkpoint(self) -> None:
+        """A plan's file is not taken for a checkpoint, and stays byte for byte."""
+        self.file("plan.json").write_bytes(PLAN)
+        self.ends("run --checkpoint plan.json plan.json", refused("22 NoStudy"), b"")
+        self.ends("share 1/1 plan.json --plan plan.json", refused("22 NoStudy"), b"")
+        self.ends("migrate plan.json new.cut --plan plan.json", refused("22 NoStudy"), b"")
+        self.expect("the plan's file", PLAN, self.file("plan.json").read_bytes())
+
+
 class Machines(ProgramCases):
     """Shares and joins."""
 
@@ -241,6 +300,8 @@ class Machines(ProgramCases):
         self.ends("join --which joined.cut share.cut empty.cut", empty)
         self.ends("join joined.cut share.cut --which", "joined 1 into 1, 2 of 2\n")
         self.ends("join joined.cut share.cut --which", refused("25 Held"))
+        self.ends("join more.cut share.cut --which none.cut", none)
+        self.file("more.cut").unlink(missing_ok=True)
         self.ends("join --which joined.cut share.cut joined.cut", same)
         self.expect("the files of the joins", ["empty.cut", "joined.cut", "share.cut"], self.names())
         for name, quoted in TABLES["quoted"]:

@@ -3,7 +3,7 @@
 use super::checkpoints::{file_with, whole_file};
 use super::migrating::FIRST;
 use super::{LINE, PLAN, is_table, work_of};
-use cut_commands::{CliFault, KeptWork, migrate, run};
+use cut_commands::{CliFault, KeptWork, MigratedFiles, migrate, run};
 use cut_disks::MemoryDisk;
 use cut_files::{Files, MemoryFiles, Mode};
 use cut_journal::JournalFault;
@@ -32,6 +32,7 @@ fn is_run<T: Threads + Wait + Sync>(
     let kept = KeptWork {
         work: work_of(1, 2),
         file: FILE,
+        plan: None,
     };
     let ended = run(files, rt, alloc, &mut wire, kept);
     Ok(ended.is_ok() && is_table(wire.taken(), LINE))
@@ -60,7 +61,12 @@ fn is_unopened(
     to: &str,
 ) -> Result<bool, Fail> {
     let mut wire = wire_of(alloc)?;
-    let ended = migrate(files, alloc, &mut wire, from, to);
+    let paths = MigratedFiles {
+        from,
+        to,
+        plan: None,
+    };
+    let ended = migrate(files, alloc, &mut wire, paths);
     let is_unopened = matches!(ended, Err(CliFault::Journal(JournalFault::Disk)));
     Ok(is_unopened && wire.taken().is_empty())
 }
@@ -75,7 +81,12 @@ fn a_study_is_moved_from_path_to_path(rt: HostRuntime) -> Result<(), Fail> {
     assert!(rt; is_unopened(alloc, &mut files, "other.cut", "new.cut")?);
     assert!(rt; is_unopened(alloc, &mut files, "old.cut", "old.cut")?);
     let mut wire = wire_of(alloc)?;
-    migrate(&mut files, alloc, &mut wire, "old.cut", "new.cut")?;
+    let paths = MigratedFiles {
+        from: "old.cut",
+        to: "new.cut",
+        plan: None,
+    };
+    migrate(&mut files, alloc, &mut wire, paths)?;
     assert!(rt; wire.taken() == b"migrated 1\n".as_slice());
     assert!(rt; files.read(alloc, "old.cut")?.as_slice() == bytes.as_slice());
     assert!(rt; files.read(alloc, "new.cut")?.len() == 372);

@@ -4,8 +4,8 @@ use Rattle.clap.specs.Words.{App, Rule, Text, new_app, with_rule, with_subcomman
 use Rattle.cut_options.specs.declared.commands.Described.{Described}
 use Rattle.cut_options.specs.declared.limits.TheConstants.{LARGEST_PIECE, MOST_OF_EACH, MOST_WORKERS}
 use Rattle.cut_options.specs.declared.arguments.Argument.{Argument}
-use Rattle.cut_options.specs.declared.arguments.Argument.TheVariants.{Count, Files, Flag, Piece, Value, Word, Workers}
-use Rattle.cut_options.specs.Options.{files_rule, flag_rule, number_rule, option_rule, word_rule}
+use Rattle.cut_options.specs.declared.arguments.Argument.TheVariants.{Count, Files, Flag, Piece, Plan, Value, Word, Workers}
+use Rattle.cut_options.specs.Options.{files_rule, flag_rule, number_rule, option_rule, plan_rule, word_rule}
 
 -- the options `--piece` and `--workers`
 abbrev pub piece_rule : Rule
@@ -22,6 +22,7 @@ count_rule name = record (number_rule name MOST_OF_EACH []) { required = true }
 abbrev pub argument_rule : Argument → Rule
 argument_rule (Word name _ _) = word_rule name.now
 argument_rule Files = files_rule
+argument_rule Plan = plan_rule
 argument_rule (Value name _ _) = option_rule name.now
 argument_rule (Count name _) = count_rule name.now
 argument_rule Piece = piece_rule

@@ -17,5 +17,8 @@ returns-in_err-socket-clause-gives c =
 
 pub returns-clause-gives : goal.returns-clause-gives
 returns-clause-gives c =
-    let found = found_of c.args.given.now in
-    (refl, sym (first_value-rows found (codes "socket")) ∙ sym c.in_ok-socket.ensures)
+    let found = found_of c.args.given.now in (
+      refl,
+      sym (first_value-rows found (codes "socket")) ∙ sym c.in_ok-socket.ensures,
+      c.plan_given.ensures,
+    )

@@ -30,4 +30,5 @@ returns-clause-gives c =
       refl,
       sym (first_value-rows found (codes "old")) ∙ sym c.in_ok-old.ensures,
       sym (first_value-rows found (codes "new")) ∙ sym c.in_ok-new.ensures,
+      c.plan_given.ensures,
     )

@@ -30,4 +30,5 @@ returns-clause-gives c =
       c.in_ok-workers.ensures.some,
       sym (first_value-rows found (codes "checkpoint")) ∙ sym c.get_str.ensures,
       c.flag_given.ensures,
+      c.plan_given.ensures,
     )

@@ -48,4 +48,5 @@ returns-clause-gives c =
       c.in_ok-piece.ensures.some,
       c.in_ok-workers.ensures.some,
       c.flag_given.ensures,
+      c.plan_given.ensures,
     )

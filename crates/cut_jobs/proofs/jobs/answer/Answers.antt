@@ -1,27 +1,18 @@
 use Rattle.std.proofs.Common.{Bor, Err, List, Ok, map, refl, subst, sym, ℕ}
-use Rattle.cut_files.specs.Place.{Unknown}
 use Rattle.cut_command_line.specs.declared.line.Job.{Job}
 use Rattle.cut_machines.specs.JoinCommand.{EndsJoin}
 use Rattle.cut_server.proofs.ReportLemmas.{ends_faulty, ends_reported}
 use Rattle.cut_jobs.specs.Jobs.{EndsJob, PrintsOn}
 use Rattle.cut_jobs.specs.inside.Printing.{PrintsFileIf}
-use Rattle.cut_jobs.proofs.JobLemmas.{ends_run, prints_join, prints_run, prints_share}
+use Rattle.cut_jobs.proofs.JobLemmas.{prints_join, prints_run, prints_share}
 use Rattle.cut_jobs.proofs.jobs.answer.Goals as goal
-
-pub returns-in-Run-clause-ends : goal.returns-in-Run-clause-ends
-returns-in-Run-clause-ends g c =
-    let old = g.W.Wire.log c.args.wire.now in
-    let new = g.W.Wire.log c.run.new.wire in
-    subst (λ (job : Job). EndsJob job old new c.run.result) (sym c.in-Run.is)
-    (ends_run c.in-Run.piece c.in-Run.workers c.in-Run.checkpoint c.in-Run.progress old new c.run.result
-    c.run.ensures.ends)
 
 pub returns-in-Run-clause-prints : goal.returns-in-Run-clause-prints
 returns-in-Run-clause-prints g c =
     let old = g.E.Wire.log c.args.errors.now in
     let new = g.E.Wire.log c.run.new.errors in
     subst (λ (job : Job). PrintsOn job c.run.result old new) (sym c.in-Run.is)
-    (prints_run c.in-Run.piece c.in-Run.workers c.in-Run.checkpoint c.in-Run.progress c.run.result old new
+    (prints_run c.in-Run.piece c.in-Run.workers c.in-Run.checkpoint c.in-Run.progress c.in-Run.plan c.run.result old new
     c.run.ensures.prints)
 
 pub returns-in-Share-clause-prints : goal.returns-in-Share-clause-prints
@@ -30,17 +21,19 @@ returns-in-Share-clause-prints g c =
     let new = g.E.Wire.log c.run-in-Share.new.errors in
     subst (λ (job : Job). PrintsOn job c.run-in-Share.result old new) (sym c.in-Share.is)
     (prints_share c.in-Share.index c.in-Share.shares c.in-Share.file c.in-Share.piece c.in-Share.workers
-    c.in-Share.progress c.run-in-Share.result old new c.run-in-Share.ensures.prints)
+    c.in-Share.progress c.in-Share.plan c.run-in-Share.result old new c.run-in-Share.ensures.prints)
 
 pub returns-in-Join-clause-ends : goal.returns-in-Join-clause-ends
 returns-in-Join-clause-ends g c =
     let old = g.W.Wire.log c.args.wire.now in
     let new = g.W.Wire.log c.run-in-Join.new.wire in
     let ends = c.run-in-Join.ensures.ends in
-    subst (λ (job : Job). EndsJob job old new c.run-in-Join.result) (sym c.in-Join.is) (
+    let before = g.F.Files.log c.args.files.now in
+    let after = g.F.Files.log c.run-in-Join.new.files in
+    subst (λ (job : Job). EndsJob job before after old new c.run-in-Join.result) (sym c.in-Join.is) (
       ends.0,
       subst (λ (files : List (Bor (List ℕ))). EndsJoin c.in-Join.new.now (map (λ (s : Bor (List ℕ)). s.now) files)
-          (λ _. Unknown) (λ _. Unknown) old new c.run-in-Join.result ends.0) c.deref.ensures.value ends.1,
+          before after old new c.run-in-Join.result ends.0) c.deref.ensures.value ends.1,
     )
 
 pub returns-in-Join-clause-prints : goal.returns-in-Join-clause-prints
@@ -57,19 +50,21 @@ pub returns-in-Share-clause-ends : goal.returns-in-Share-clause-ends
 returns-in-Share-clause-ends g c =
     let old = g.W.Wire.log c.args.wire.now in
     let new = g.W.Wire.log c.run-in-Share.new.wire in
-    subst (λ (job : Job). EndsJob job old new c.run-in-Share.result) (sym c.in-Share.is)
+    subst (λ (job : Job). EndsJob job (g.F.Files.log c.args.files.now) (g.F.Files.log c.run-in-Share.new.files) old new c.run-in-Share.result) (sym c.in-Share.is)
     (_, refl, refl, refl, c.run-in-Share.ensures.ends)
 
 pub returns-in-Ok-clause-ends : goal.returns-in-Ok-clause-ends
 returns-in-Ok-clause-ends g c =
     let old = g.W.Wire.log c.args.wire.now in
     let new = g.W.Wire.log c.serve_at.new.wire in
-    subst (λ (job : Job). EndsJob job old new (Ok tt)) (sym c.in-Serve.is)
-    (ends_reported c.in-Serve.studies c.in-Ok._report old new c.in-Ok.ensures.writes)
+    let before = g.F.Files.log c.args.files.now in
+    subst (λ (job : Job). EndsJob job before before old new (Ok tt)) (sym c.in-Serve.is)
+    (ends_reported c.in-Serve.studies c.in-Ok._report old new c.in-Ok.ensures.writes, refl)
 
 pub returns-in-Err-clause-ends : goal.returns-in-Err-clause-ends
 returns-in-Err-clause-ends g c =
     let old = g.W.Wire.log c.args.wire.now in
     let new = g.W.Wire.log c.serve_at.new.wire in
-    subst (λ (job : Job). EndsJob job old new (Err c.in-Err.fault)) (sym c.in-Serve.is)
-    (ends_faulty c.in-Serve.studies c.in-Err.fault old new c.in-Err.ensures.writes)
+    let before = g.F.Files.log c.args.files.now in
+    subst (λ (job : Job). EndsJob job before before old new (Err c.in-Err.fault)) (sym c.in-Serve.is)
+    (ends_faulty c.in-Serve.studies c.in-Err.fault old new c.in-Err.ensures.writes, refl)

@@ -1,0 +1,29 @@
+use Rattle.std.proofs.Common.{◌≡◌, ◌∙◌, inl, Option, refl, ap, subst}
+use Rattle.cut_disks.specs.Log.{DiskLog}
+use Rattle.cut_files.specs.Place.{Place, Unknown, Absent, Refused, Open, Holds, closed, opened, while_open}
+use Rattle.cut_files.proofs.Places.{stands_while_open}
+use Rattle.cut_commands.proofs.Sources.{same_place}
+use Rattle.cut_machines.specs.Share.{SharesFrom}
+use Rattle.cut_machines.proofs.share_command.share.Goals as goal
+
+-- a file that was opened is shut as if it had not been
+closed_opened : (disk : DiskLog) (place : Place) → closed disk (opened place) ≡ closed disk place
+closed_opened disk Unknown = refl
+closed_opened disk Absent = refl
+closed_opened disk Refused = refl
+closed_opened disk Open = refl
+closed_opened disk (Holds log) = refl
+
+pub returns-clause-ends : goal.returns-clause-ends
+returns-clause-ends g c =
+    let first = g.F.Files.log c.args.files.now in
+    let mid = g.F.Files.log c.open.new.self in
+    let file = c.args.work.file.now in
+    let back = g.F.Disk.Disk.log c.share_on-disk.result.disk in
+    inl (g.F.Disk.Disk.log c.in_ok-disk.disk, back, (c.in_ok-disk.ensures.opened.0,
+    c.close.ensures.closed ∙ ap (closed back) c.in_ok-disk.ensures.opened.1 ∙ closed_opened back (first file),
+    subst (λ (plan : Option Place). SharesFrom plan c.share_on-disk.result.ended c.args.work.share
+    (g.F.Disk.Disk.log c.in_ok-disk.disk) back (g.W.Wire.log c.args.wire.now) (g.W.Wire.log c.share_on-disk.new.wire))
+    (c.on.ensures.2 ∙ same_place mid (while_open file first) c.args.work.plan
+    (stands_while_open file first mid c.in_ok-disk.ensures.opened.1 c.in_ok-disk.ensures.elsewhere))
+    (rw (c.on.ensures.0, c.on.ensures.1) at c.share_on-disk.ensures)))
