@@ -11,7 +11,6 @@ use Rattle.cut_plan.specs.declared.refusal.Refusal.TheVariants.{NotJson, PlanToo
 use Rattle.cut_plan.specs.Values.{Values}
 use Rattle.cut_plan.specs.Accepted.{plan_of}
 use Rattle.cut_wires.specs.Log.{WireLog, passing, wrote, read_failed, write_failed}
-use Rattle.cut_journal.specs.declared.fault.JournalFault.TheVariants.{Disk}
 use Rattle.cut_files.specs.Place.{Place, IsStart, MayNotRead}
 use Rattle.cut_files.specs.declared.files.OpenFault.{OpenFault}
 use Rattle.cut_commands.specs.declared.input.PlanSource.{PlanSource}
