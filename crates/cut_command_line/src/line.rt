@@ -9,8 +9,9 @@ ghost use Rattle.cut_command_line.specs.declared.line.Job.{Job};
 use crate::machines::{TOO_MANY_FILES, WRONG_SHARE, join_job, share_job};
 use clap::error::ErrorKind;
 use clap::{ArgMatches, Command, Error};
-use cut_options::{JOIN_USAGE, SHARE_USAGE, program_commands};
-use cut_options::{LARGEST_PIECE, MOST_OF_EACH, MOST_WORKERS};
+use cut_options::{
+    JOIN_USAGE, LARGEST_PIECE, MOST_OF_EACH, MOST_WORKERS, SHARE_USAGE, program_commands,
+};
 use std::alloc::{AllocError, Global};
 use std::convert::AsStr;
 

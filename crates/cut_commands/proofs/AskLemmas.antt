@@ -33,8 +33,12 @@ conveyed (Some place) text bytes old mid new read short is =
 -- nothing was written after it, as it is too long
 too_long : (plan : Option Place) (text : List ℕ) (old mid new : WireLog) → GivesTextFrom plan (Ok text) old mid
     → 65536 < length text → new ≡ mid → ConveysPartly plan ask.PlanTooLong old new
-too_long None text old mid new read long same = (text, omega (arith, read.0, long), (let full : nat_lt (length text) 65537 ≡ false = grind (arith, nat_tests) in
-    same ∙ read.1 ∙ ap (λ (b : Bool). read_on text b old) full))
+too_long None text old mid new read long same = (
+  text,
+  omega (arith, read.0, long),
+  (let full : nat_lt (length text) 65537 ≡ false = grind (arith, nat_tests) in
+      same ∙ read.1 ∙ ap (λ (b : Bool). read_on text b old) full),
+)
 too_long (Some place) text old mid new read long same = (text, omega (arith, read.0.short, long), (read.0, same ∙ read.1))
 
 -- or as the request was not sent

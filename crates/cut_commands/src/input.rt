@@ -70,11 +70,7 @@ pub fn read_plan<W: Wire>(alloc: Global, wire: &mut W) -> Result<Plan, CliFault>
 }
 
 /// The first bytes that a wire gives, up to a limit. A read that fails, or that is interrupted, is a fault.
-fn read_text<W: Wire>(
-    alloc: Global,
-    wire: &mut W,
-    limit: usize,
-) -> Result<Vec<u8>, CliFault>
+fn read_text<W: Wire>(alloc: Global, wire: &mut W, limit: usize) -> Result<Vec<u8>, CliFault>
     ensures { GivesText limit (text_of result) (W.log wire.old) (W.log wire.new) }
 {
     let mut text = vec![in alloc; 0u8; limit]?;

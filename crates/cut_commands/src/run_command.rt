@@ -77,11 +77,7 @@ pub struct Study<'a, G, D, F> {
 
 impl<'a, G, D, F> Study<'a, G, D, F> {
     /// A study that is worked on so, on a disk or on none, by the plan that is read there.
-    pub fn new(
-        work: Work<'a, G>,
-        disk: Option<D>,
-        source: PlanSource<'a, F>,
-    ) -> Study<'a, G, D, F>
+    pub fn new(work: Work<'a, G>, disk: Option<D>, source: PlanSource<'a, F>) -> Study<'a, G, D, F>
         ensures { (result.work ≡ work.entry) × (result.disk ≡ disk) × (result.source ≡ source.entry) }
     {
         Study { work, disk, source }

@@ -6,8 +6,10 @@ use crate::run_job::{RunJob, WorkersJob};
 use crate::share_job::ShareJob;
 use crate::study_job::StudyJob;
 use cut_command_line::Job;
-use cut_commands::{CliFault, MigratedFiles, PlanSource, ask_at, migrate, status};
-use cut_commands::{canonical_from, check_from, explain_from};
+use cut_commands::{
+    CliFault, MigratedFiles, PlanSource, ask_at, canonical_from, check_from, explain_from, migrate,
+    status,
+};
 use cut_files::Files;
 use cut_server::{Capacity, serve_at};
 use cut_share::Share;

@@ -54,8 +54,11 @@ subcommands =
     ∷ (codes "serve", word_rule (codes "socket") ∷ counts ++ option_rule (codes "dir") ∷ [])
     ∷ (codes "ask", word_rule (codes "socket") ∷ option_rule (codes "plan") ∷ [])
     ∷ (codes "migrate", word_rule (codes "old") ∷ word_rule (codes "new") ∷ option_rule (codes "plan") ∷ [])
-    ∷ (codes "share", word_rule (codes "share") ∷ word_rule (codes "file")
-    ∷ sizes ++ flag_rule (codes "progress") ∷ option_rule (codes "plan") ∷ [])
+    ∷ (
+      codes "share",
+      word_rule (codes "share") ∷ word_rule (codes "file")
+          ∷ sizes ++ flag_rule (codes "progress") ∷ option_rule (codes "plan") ∷ [],
+    )
     ∷ (codes "join", word_rule (codes "new") ∷ files_rule ∷ flag_rule (codes "which") ∷ []) ∷ []
 
 -- the program as clap sees it: it has a version, needs one of its subcommands, and without a word it shows its help

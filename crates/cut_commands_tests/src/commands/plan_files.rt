@@ -3,8 +3,10 @@
 use super::checkpoints::file_with;
 use super::migrating::FIRST;
 use super::{LINE, NO_DISK, PLAN, is_table, work_of};
-use cut_commands::{CliFault, KeptWork, MigratedFiles, PlanSource, Study, migrate, run, run_from};
-use cut_commands::{canonical_from, check_from, explain_from};
+use cut_commands::{
+    CliFault, KeptWork, MigratedFiles, PlanSource, Study, canonical_from, check_from, explain_from,
+    migrate, run, run_from,
+};
 use cut_disks::MemoryDisk;
 use cut_files::{Files, MemoryFiles};
 use cut_wires::{MemoryWire, Wire};
@@ -81,7 +83,12 @@ fn a_plan_of_a_file_is_checked(rt: HostRuntime) -> Result<(), Fail> {
 /// Whether the plan of the file is explained.
 fn is_explained<C: CpuClock>(alloc: Global, clock: &C, files: &MemoryFiles) -> Result<bool, Fail> {
     let mut wire = wire_of(alloc)?;
-    explain_from(alloc, clock, PlanSource::of(files, Some(PLAN_FILE)), &mut wire)?;
+    explain_from(
+        alloc,
+        clock,
+        PlanSource::of(files, Some(PLAN_FILE)),
+        &mut wire,
+    )?;
     Ok(wire.taken().starts_with(b"accepted\ncells 1\ntrials 2\n"))
 }
 
@@ -96,7 +103,15 @@ fn a_plan_of_a_file_is_explained(rt: HostRuntime) -> Result<(), Fail> {
 fn files_that_give_no_plan(rt: HostRuntime) -> Result<(), Fail> {
     let alloc = rt.alloc();
     let mut files = files_of(alloc, b"{}")?;
-    assert!(rt; is_refused(alloc, &files, PLAN_FILE, "cutlab: fault 4 MissingField copies", 3)?);
+    assert!(rt;
+        is_refused(
+            alloc,
+            &files,
+            PLAN_FILE,
+            "cutlab: fault 4 MissingField copies",
+            3
+        )?
+    );
     assert!(rt; is_refused(alloc, &files, "none.json", "cutlab: fault 20 Disk", 4)?);
     files.refuse("folder")?;
     assert!(rt; is_refused(alloc, &files, "folder", "cutlab: fault 20 Disk", 4)?);
@@ -123,7 +138,12 @@ fn is_run<T: Threads + Wait + Sync>(rt: &T, alloc: Global) -> Result<bool, Fail>
     let files = files_of(alloc, PLAN.as_bytes())?;
     let mut wire = wire_of(alloc)?;
     let source = PlanSource::of(&files, Some(PLAN_FILE));
-    run_from(rt, alloc, &mut wire, Study::new(work_of(1, 2), NO_DISK, source))?;
+    run_from(
+        rt,
+        alloc,
+        &mut wire,
+        Study::new(work_of(1, 2), NO_DISK, source),
+    )?;
     Ok(is_table(wire.taken(), LINE))
 }
 

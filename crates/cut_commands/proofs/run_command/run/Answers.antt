@@ -15,8 +15,14 @@ returns-clause-ends g c =
     let disk = g.F.Disk.Disk.log c.in_ok-disk.disk in
     let old = g.W.Wire.log c.args.wire.now in
     let new = g.W.Wire.log c.run_from.new.wire in
-    inl (disk, (c.in_ok-disk.ensures.opened.0, c.in_ok-disk.ensures.opened.1,
-    subst (λ (plan : Option Place). RunsFrom (Some disk) plan old new c.run_from.result)
-    (c.of-source.ensures ∙ same_place mid (while_open file first) c.args.kept.plan
-    (stands_while_open file first mid c.in_ok-disk.ensures.opened.1 c.in_ok-disk.ensures.elsewhere))
-    (rw (c.new.ensures.1, c.new.ensures.2) at c.run_from.ensures)))
+    inl (
+      disk,
+      (
+        c.in_ok-disk.ensures.opened.0,
+        c.in_ok-disk.ensures.opened.1,
+        subst (λ (plan : Option Place). RunsFrom (Some disk) plan old new c.run_from.result)
+            (c.of-source.ensures ∙ same_place mid (while_open file first) c.args.kept.plan
+            (stands_while_open file first mid c.in_ok-disk.ensures.opened.1 c.in_ok-disk.ensures.elsewhere))
+            (rw (c.new.ensures.1, c.new.ensures.2) at c.run_from.ensures),
+      ),
+    )
