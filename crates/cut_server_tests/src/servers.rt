@@ -1,7 +1,8 @@
 //! Servers and their clients, over sockets of the system and over wires in memory.
 
-use cut_commands::{CliFault, ask_at};
+use cut_commands::{CliFault, PlanSource, ask_at};
 use cut_faults::Failures;
+use cut_files::MemoryFiles;
 use cut_server::{Capacity, FolderShelf, ListenFault, Listener, serve_at, serve_io};
 use cut_wires::MemoryWire;
 use std::alloc::{AllocError, Global};
@@ -69,7 +70,8 @@ fn is_asked_once(
 ) -> Result<bool, AllocError> {
     let input = Vec::from_slice(host.alloc(), plan.as_bytes())?;
     let mut wire = MemoryWire::new(host.alloc(), input, 4096);
-    Ok(ask_at(host, &mut wire, socket).is_ok() && wire.taken() == table.as_bytes())
+    let source = PlanSource::<MemoryFiles>::Input;
+    Ok(ask_at(host, source, &mut wire, socket).is_ok() && wire.taken() == table.as_bytes())
 }
 
 /// Whether a client has its table, once there is a server.

@@ -32,8 +32,8 @@ returns-in-Ok-text-clause-ends g c =
     c.write_answer-ended.ensures)
     c.join_slips_of-disk.ensures.known
 
-pub returns-in-Err-text-clause-ends : goal.returns-in-Err-text-clause-ends
-returns-in-Err-text-clause-ends g c =
+pub returns-clause-ends : goal.returns-clause-ends
+returns-clause-ends g c =
     let files : JoinFiles = record {
       old = paths_of c.args.old.now;
       found = g.F.Files.log c.args.files.now;
