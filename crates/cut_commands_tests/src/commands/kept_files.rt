@@ -54,11 +54,11 @@ fn a_study_is_kept_at_its_path(rt: HostRuntime) -> Result<(), Fail> {
 }
 
 /// Whether a migration ends with the fault of a file that is not opened, and writes nothing.
-fn is_unopened(
+fn is_unopened<'p>(
     alloc: Global,
     files: &mut MemoryFiles<MemoryDisk>,
-    from: &str,
-    to: &str,
+    from: &'p str,
+    to: &'p str,
 ) -> Result<bool, Fail> {
     let mut wire = wire_of(alloc)?;
     let paths = MigratedFiles {
