@@ -7,7 +7,7 @@ use cut_files::{MemoryFiles, SystemFiles};
 use cut_join::join as join_slips;
 use cut_journal::Journal;
 use cut_ledger::Slip;
-use cut_machines::{Joined, join};
+use cut_machines::{Joined, JoinedFiles, join};
 use cut_outcome::{Piece, Totals};
 use cut_plan::Plan;
 use cut_wires::MemoryWire;
@@ -101,14 +101,20 @@ enum End {
     Other,
 }
 
-// How joining files in the new one ends, and which of them is refused.
+// How joining files in the new one ends, by a plan from a file or else from the wire, and which of them is refused.
 fn end_of(
     alloc: Global,
     files: &mut MemoryFiles<FaultyDisk>,
     old: &[&str],
+    plan: Option<&str>,
 ) -> Result<(End, Option<usize>), Fail> {
     let mut wire = MemoryWire::new(alloc, Vec::from_slice(alloc, PLAN.as_bytes())?, 4096);
-    let Joined { refused, ended } = join(files, alloc, &mut wire, old, NEW);
+    let paths = JoinedFiles {
+        from: old,
+        to: NEW,
+        plan,
+    };
+    let Joined { refused, ended } = join(files, alloc, &mut wire, paths);
     let end = match ended {
         Ok(()) if wire.taken() == LINE.as_bytes() => End::Joined,
         Err(CliFault::Memory) => End::Memory,
@@ -121,7 +127,7 @@ fn end_of(
 // How joining the three checkpoints ends, where the second of them fails at a call, and the new one at another.
 fn end_where(alloc: Global, old_at: u64, new_at: u64) -> Result<(End, Option<usize>), Fail> {
     let mut files = files_of(alloc, old_at, new_at)?;
-    end_of(alloc, &mut files, &OLD)
+    end_of(alloc, &mut files, &OLD, None)
 }
 
 #[test]
@@ -151,10 +157,26 @@ fn each_call_of_a_disk_fails(rt: HostRuntime) -> Result<(), Fail> {
 fn a_file_that_does_not_open_is_refused(rt: HostRuntime) -> Result<(), Fail> {
     let mut files = files_of(rt.alloc(), 0, 0)?;
     let absent = ["1.cut", "2.cut", "4.cut"];
-    assert!(rt; end_of(rt.alloc(), &mut files, &absent)? == (End::Disk, Some(3)));
+    assert!(rt; end_of(rt.alloc(), &mut files, &absent, None)? == (End::Disk, Some(3)));
     let new = ["1.cut", NEW, "3.cut"];
-    assert!(rt; end_of(rt.alloc(), &mut files, &new)? == (End::Disk, Some(2)));
-    assert!(rt; end_of(rt.alloc(), &mut files, &OLD)? == (End::Joined, None));
+    assert!(rt; end_of(rt.alloc(), &mut files, &new, None)? == (End::Disk, Some(2)));
+    assert!(rt; end_of(rt.alloc(), &mut files, &OLD, None)? == (End::Joined, None));
+    Ok(())
+}
+
+// By a plan's file that is not there no old file is refused, and the new one stays empty, so that a join by a file that
+// is there can follow. It may be any file, also one of those that are joined: its first bytes are no plan.
+#[test]
+fn a_plan_is_read_from_its_file(rt: HostRuntime) -> Result<(), Fail> {
+    let mut files = files_of(rt.alloc(), 0, 0)?;
+    let disk = failing_disk(rt.alloc(), PLAN.as_bytes(), 0)?;
+    files.put("plan.json", disk)?;
+    let absent = Some("no.json");
+    assert!(rt; end_of(rt.alloc(), &mut files, &OLD, absent)? == (End::Disk, None));
+    let checkpoint = Some("1.cut");
+    assert!(rt; end_of(rt.alloc(), &mut files, &OLD, checkpoint)? == (End::Other, None));
+    let plan = Some("plan.json");
+    assert!(rt; end_of(rt.alloc(), &mut files, &OLD, plan)? == (End::Joined, None));
     Ok(())
 }
 
@@ -191,15 +213,14 @@ fn files_are_joined(rt: HostRuntime) -> Result<(), Fail> {
         let disk = checkpoint_of(rt.alloc(), *pieces)?;
         fs::write(&rt, *path, disk.memory().bytes())?;
     }
-    let plan = Vec::from_slice(rt.alloc(), PLAN.as_bytes())?;
-    let mut wire = MemoryWire::new(rt.alloc(), plan, 4096);
-    let Joined { refused, ended } = join(
-        &mut SystemFiles::of(&rt),
-        rt.alloc(),
-        &mut wire,
-        &FILES,
-        "cutlab_join_test/new.cut",
-    );
+    fs::write(&rt, "cutlab_join_test/plan.json", PLAN.as_bytes())?;
+    let mut wire = MemoryWire::new(rt.alloc(), Vec::new(rt.alloc()), 4096);
+    let paths = JoinedFiles {
+        from: &FILES,
+        to: "cutlab_join_test/new.cut",
+        plan: Some("cutlab_join_test/plan.json"),
+    };
+    let Joined { refused, ended } = join(&mut SystemFiles::of(&rt), rt.alloc(), &mut wire, paths);
     assert!(rt; refused == None && matches!(ended, Ok(())) && wire.taken() == LINE.as_bytes());
     Ok(fs::remove_dir_all(&rt, FOLDER)?)
 }

@@ -35,7 +35,7 @@ verb_of (Serve socket workers sessions studies folder) = to_serve
 verb_of (Ask socket plan) = to_ask
 verb_of (Migrate from to plan) = to_migrate
 verb_of (Share index shares file piece workers progress plan) = to_share
-verb_of (Join to from which) = to_join
+verb_of (Join to from which plan) = to_join
 
 -- the command of a name
 abbrev pub verb_in : Text → Verb
@@ -62,7 +62,7 @@ is_of name rows (Serve socket workers sessions studies folder) asks = sym (ap ve
 is_of name rows (Ask socket plan) asks = sym (ap verb_in asks.0)
 is_of name rows (Migrate from to plan) asks = sym (ap verb_in asks.0)
 is_of name rows (Share index shares file piece workers progress plan) asks = sym (ap verb_in asks.0)
-is_of name rows (Join to from which) asks = sym (ap verb_in asks.0)
+is_of name rows (Join to from which plan) asks = sym (ap verb_in asks.0)
 
 -- what is given with a command
 abbrev pub Values : Verb → List Row → Type 0
@@ -105,7 +105,7 @@ values_of name rows (Ask socket plan) asks = (socket.now, asks.1)
 values_of name rows (Migrate from to plan) asks = ((from.now, asks.1), (to.now, asks.2))
 values_of name rows (Share index shares file piece workers progress plan) asks =
     ((index, (shares, asks.1)), (file.now, asks.2), (piece, asks.3), (workers, asks.4))
-values_of name rows (Join to from which) asks =
+values_of name rows (Join to from which plan) asks =
     ((to.now, asks.1), (map (λ s. s.now) from.items, (asks.2, few_texts from.items asks.3)))
 
 -- a job that a command asks for has what is given with it

@@ -79,10 +79,10 @@ AsksForJob name rows (Share index shares file piece workers progress plan) =
     (name ≡ codes "share") × GivesShare rows index shares × (first_of (codes "file") rows ≡ Some file.now)
     × GivesNumber (codes "piece") LARGEST_PIECE rows piece × GivesNumber (codes "workers") MOST_WORKERS rows workers
     × GivesFlag (codes "progress") rows progress × GivesPlan rows plan
-AsksForJob name rows (Join to from which) =
+AsksForJob name rows (Join to from which plan) =
     (name ≡ codes "join") × (first_of (codes "new") rows ≡ Some to.now)
     × (all_of (codes "old") rows ≡ Some (map (λ s. s.now) from.items)) × (length from.items ≤ MOST_CHECKPOINTS)
-    × GivesFlag (codes "which") rows which
+    × GivesFlag (codes "which") rows which × GivesPlan rows plan
 
 -- the job that a command line names
 abbrev pub NamesJob : List Text → Job → Type 0
@@ -125,4 +125,4 @@ IsSizedJob (Migrate from to plan) = ⊤
 IsSizedJob (Share index shares file piece workers progress plan) =
     (1 ≤ index) × (index ≤ shares) × (shares ≤ MOST_SHARES) × (1 ≤ piece) × (piece ≤ LARGEST_PIECE) × (1 ≤ workers)
     × (workers ≤ MOST_WORKERS)
-IsSizedJob (Join to from which) = length from.items ≤ MOST_CHECKPOINTS
+IsSizedJob (Join to from which plan) = length from.items ≤ MOST_CHECKPOINTS

@@ -105,6 +105,8 @@ pub enum Job<'a> {
         old: Vec<&'a str>,
         /// Whether a line on standard error says which of them is refused, if one is.
         which: bool,
+        /// The file that the plan is read from, if it is not the program's input.
+        plan: Option<&'a str>,
     },
 }
 

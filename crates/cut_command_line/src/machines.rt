@@ -68,6 +68,7 @@ pub(crate) fn join_job<'a>(
         new,
         old,
         which: flag_given(given, "which"),
+        plan: plan_given(given),
     }))
 }
 

@@ -96,13 +96,13 @@ cutlab share --piece 2 100000/100000 --workers=64 a.cut
 Share { index: 100000, shares: 100000, file: "a.cut", piece: 2, workers: 64, progress: false, plan: None }
 
 cutlab join new.cut a.cut b.cut
-Join { new: "new.cut", old: ["a.cut", "b.cut"], which: false }
+Join { new: "new.cut", old: ["a.cut", "b.cut"], which: false, plan: None }
 
 cutlab join --which new.cut a.cut
-Join { new: "new.cut", old: ["a.cut"], which: true }
+Join { new: "new.cut", old: ["a.cut"], which: true, plan: None }
 
-cutlab join new.cut a.cut --which b.cut c.cut
-Join { new: "new.cut", old: ["a.cut", "b.cut", "c.cut"], which: true }"#;
+cutlab join new.cut a.cut --which b.cut --plan plan.json c.cut
+Join { new: "new.cut", old: ["a.cut", "b.cut", "c.cut"], which: true, plan: Some("plan.json") }"#;
 
 /// The words of a line, between blanks.
 fn words_of<'a>(alloc: Global, line: &'a str) -> Result<Vec<&'a str>, AllocError> {
@@ -154,7 +154,7 @@ fn joins_have_a_thousand_files(rt: HostRuntime) -> Result<(), Fail> {
     let most = join_of(rt.alloc(), 1_000)?;
     assert!(rt; files_joined(rt.alloc(), &most) == 1_000);
     let more = join_of(rt.alloc(), 1_001)?;
-    let text = "too many|at most 1000|Usage: cutlab join [OPTIONS] <NEW> <OLD>... < PLAN";
+    let text = "too many|at most 1000|Usage: cutlab join [OPTIONS] <NEW> <OLD>...";
     assert!(rt; is_reported(rt.alloc(), &more, "2", text));
     Ok(())
 }

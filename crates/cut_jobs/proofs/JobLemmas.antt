@@ -19,7 +19,8 @@ pub prints_share : (index shares : ℕ) (file : Bor (List ℕ)) (piece workers :
 prints_share index shares file piece workers true plan ended old new is = is
 prints_share index shares file piece workers false plan ended old new is = is
 
-pub prints_join : (to : Bor (List ℕ)) (from : Vec (Bor (List ℕ)) Global) (which : Bool) (ended : Result ⊤ CliFault)
-    (old new : WireLog) → PrintsFileIf which from.items ended old new → PrintsOn (Join to from which) ended old new
-prints_join to from true ended old new is = is
-prints_join to from false ended old new is = is
+pub prints_join : (to : Bor (List ℕ)) (from : Vec (Bor (List ℕ)) Global) (which : Bool) (plan : Option (Bor (List ℕ)))
+    (ended : Result ⊤ CliFault) (old new : WireLog) → PrintsFileIf which from.items ended old new
+    → PrintsOn (Join to from which plan) ended old new
+prints_join to from true plan ended old new is = is
+prints_join to from false plan ended old new is = is

@@ -61,8 +61,8 @@ EndsJob (Migrate from to plan) before after old new result =
 EndsJob (Share index shares file piece workers progress plan) before after old new result =
     (s : share.Share) × (s.index ≡ index) × (s.shares ≡ shares) × (s.block_size ≡ piece)
     × EndsShareOn file.now plan s before after old new result
-EndsJob (Join to from which) before after old new result =
-    (refused : Option ℕ) × EndsJoin to.now (map (λ s. s.now) from.items) before after old new result refused
+EndsJob (Join to from which plan) before after old new result =
+    (refused : Option ℕ) × EndsJoin to.now (map (λ s. s.now) from.items) plan before after old new result refused
 
 -- the line that says which file is refused, by its place and its path, which is quoted, so that it can't end the line
 abbrev pub file_line : ℕ → List ℕ → List ℕ
@@ -81,7 +81,7 @@ PrintsRefused paths (Some place) old new =
 abbrev pub PrintsOn : Job → Result ⊤ CliFault → WireLog → WireLog → Type 0
 PrintsOn (Run piece workers file true plan) ended old new = HasPrinted old new
 PrintsOn (Share index shares file piece workers true plan) ended old new = HasPrinted old new
-PrintsOn (Join to from true) ended old new =
+PrintsOn (Join to from true plan) ended old new =
     (refused : Option ℕ) × (NamesRefusedFile (length from.items) ended refused
     × PrintsRefused (map (λ s. s.now) from.items) refused old new)
 PrintsOn job ended old new = new ≡ old

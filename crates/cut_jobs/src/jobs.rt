@@ -11,6 +11,7 @@ use cut_commands::{
     status,
 };
 use cut_files::Files;
+use cut_machines::JoinedFiles;
 use cut_server::{Capacity, serve_at};
 use cut_share::Share;
 use cut_wires::Wire;
@@ -84,10 +85,19 @@ where
             });
             RunJob { work, progress }.run(files, system, wire, errors)
         }
-        Job::Join { new, old, which } => {
+        Job::Join {
+            new,
+            old,
+            which,
+            plan,
+        } => {
+            let joined = JoinedFiles {
+                from: &old,
+                to: new,
+                plan,
+            };
             let join = JoinJob {
-                new,
-                old: &old,
+                files: joined,
                 which,
             };
             join.run(files, alloc, wire, errors)

@@ -13,16 +13,15 @@ use crate::quoted::quoted_char;
 use arrayvec::ArrayString;
 use cut_commands::CliFault;
 use cut_files::Files;
-use cut_machines::{Joined, join};
+use cut_machines::{Joined, JoinedFiles, join};
 use cut_wires::{Wire, send_all};
 use itoa::Buffer;
 use std::alloc::Global;
 
-/// The values of a join: the new file, the old ones, and whether the one that is refused is named.
+/// The values of a join: its files, and whether the old one that is refused is named.
 #[derive(Clone, Copy)]
 pub(crate) struct JoinJob<'a> {
-    pub(crate) new: &'a str,
-    pub(crate) old: &'a [&'a str],
+    pub(crate) files: JoinedFiles<'a>,
     pub(crate) which: bool,
 }
 
@@ -40,15 +39,16 @@ impl JoinJob<'_> {
         F: Files,
         W: Wire,
         E: Wire,
-        ensures ends { (refused : Option ℕ) × EndsJoin self.now.new.now (map (λ s. s.now) self.now.old.now)
-            (F.log files.old) (F.log files.new) (W.log wire.old) (W.log wire.new) result refused }
-        ensures prints { PrintsFileIf self.now.which self.now.old.now result
+        ensures ends { (refused : Option ℕ) × EndsJoin self.now.files.to.now
+            (map (λ s. s.now) self.now.files.from.now) self.now.files.plan (F.log files.old) (F.log files.new)
+            (W.log wire.old) (W.log wire.new) result refused }
+        ensures prints { PrintsFileIf self.now.which self.now.files.from.now result
             (E.log errors.old) (E.log errors.new) }
     {
-        let Joined { refused, ended } = join(files, alloc, wire, self.old, self.new);
+        let Joined { refused, ended } = join(files, alloc, wire, self.files);
         if self.which {
             if let Some(place) = refused {
-                report_refused(place, self.old, errors);
+                report_refused(place, self.files.from, errors);
             }
         }
         ended

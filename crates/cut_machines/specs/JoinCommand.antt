@@ -1,6 +1,7 @@
 -- What a join of checkpoints writes for a plan, by what its files hold, and what it leaves of them and of the new one.
 use Rattle.std.specs.Prelude.{◌≡◌, ◌⊎◌, ◌≤◌, ◌++◌, ℕ, List, ◌∷◌, [], length, codes, Option, Some, None, Result}
 use Rattle.std.specs.Prelude.{Ok, Err, ⊤}
+use Rattle.std.specs.Borrow.{Bor}
 use Rattle.std.specs.Fmt.{decimal}
 use Rattle.cut_plan.specs.Cells.{trial_count}
 use Rattle.cut_plan.specs.Values.{Values}
@@ -15,12 +16,13 @@ use Rattle.cut_journal.specs.declared.fault.JournalFault.{JournalFault}
 use Rattle.cut_status.specs.Status.{held_trials, part_text}
 use Rattle.cut_join.specs.Joined.{joined}
 use Rattle.cut_commands.specs.Faults.{IsRefusalOfNew, IsRefusalOfOld, fault_of_files}
-use Rattle.cut_commands.specs.Run.{EndsCommand, GivesPlan}
+use Rattle.cut_commands.specs.Run.{CommandAnswers, EndsRead, GivesPlanFrom, plan_place}
 use Rattle.cut_commands.specs.Task.{Task}
 use Rattle.cut_commands.specs.declared.fault.CliFault.{CliFault}
 use Rattle.cut_commands.specs.declared.fault.CliFault.TheVariants.{Memory, Plan, Read, Journal}
 use Rattle.cut_machines.specs.JoinSources.{AreRead, HoldAll, IsRefusedAt, StopsReading}
 use Rattle.cut_machines.specs.JoinTarget.{LeavesDisk, StopsWriting, writing_faults}
+use Rattle.cut_machines.specs.Share.{HasUnread}
 
 -- the line that says how many slips were joined to how many, and how many trials of how many these hold
 unfoldable pub joined_text : Values → List Slip → List ℕ
@@ -67,12 +69,12 @@ pub record AreUntouched (files : JoinFiles) : Type 0 where
 
 -- what is left of the files at the other ends: they are as before where no plan was read; and where memory ran out,
 -- unless a plan was read and its slips were joined
-abbrev pub LeavesOther : JoinFiles → WireLog → WireLog → Result ⊤ CliFault → Type 0
-LeavesOther files old new (Err Read) = AreUntouched files
-LeavesOther files old new (Err (Plan refusal)) = AreUntouched files
-LeavesOther files old new (Err Memory) = AreUntouched files
-    ⊎ ((v : Values) × (GivesPlan (Ok v) old new × StopsJoin files v Memory))
-LeavesOther files old new result = ⊤
+abbrev pub LeavesOther : Option Place → JoinFiles → WireLog → WireLog → Result ⊤ CliFault → Type 0
+LeavesOther plan files old new (Err Read) = AreUntouched files
+LeavesOther plan files old new (Err (Plan refusal)) = AreUntouched files
+LeavesOther plan files old new (Err Memory) = AreUntouched files
+    ⊎ ((v : Values) × (GivesPlanFrom plan (Ok v) old new × StopsJoin files v Memory))
+LeavesOther plan files old new result = ⊤
 
 -- what a fault of a journal is one of, for a plan that was read: of the old file at a place, from 1, which is the first
 -- that said no slips, and the new disk is as before; or of the new disk, and all old files said their slips
@@ -83,24 +85,31 @@ RefusesOld files v fault None =
     IsRefusalOfNew fault × ((slips : List Slip) × HasWritten (Err (Journal fault)) files v slips)
 
 -- which old file is refused, if one is: none at another end
-abbrev pub NamesRefused : JoinFiles → WireLog → WireLog → Result ⊤ CliFault → Option ℕ → Type 0
-NamesRefused files old new (Err (Journal fault)) refused =
-    (v : Values) × (GivesPlan (Ok v) old new × RefusesOld files v fault refused)
-NamesRefused files old new result refused = refused ≡ None
+abbrev pub NamesRefused : Option Place → JoinFiles → WireLog → WireLog → Result ⊤ CliFault → Option ℕ → Type 0
+NamesRefused plan files old new (Err (Journal fault)) refused =
+    (v : Values) × (GivesPlanFrom plan (Ok v) old new × RefusesOld files v fault refused)
+NamesRefused plan files old new result refused = refused ≡ None
 
--- how it ends: as a command does, which old file is refused, and what is left of the files
-pub record EndsJoinCommand (files : JoinFiles) (old new : WireLog) (ended : Result ⊤ CliFault) (refused : Option ℕ)
-    : Type 0 where
-  pub command : EndsCommand (join_task files) old new ended
-  pub names : NamesRefused files old new ended refused
-  pub other : LeavesOther files old new ended
+-- how it ends, by where its plan is read from: as a command does, which old file is refused, and what is left of the files
+pub record EndsJoinCommand (plan : Option Place) (files : JoinFiles) (old new : WireLog) (ended : Result ⊤ CliFault)
+    (refused : Option ℕ) : Type 0 where
+  pub command : EndsRead (CommandAnswers (join_task files)) plan old new ended
+  pub names : NamesRefused plan files old new ended refused
+  pub other : LeavesOther plan files old new ended
   pub known : is_known files.back ≡ is_known files.disk
+
+-- or the plan's file was not read: then nothing is done to a file, and no old one is refused
+abbrev pub EndsJoinFrom : Option Place → JoinFiles → WireLog → WireLog → Result ⊤ CliFault → Option ℕ → Type 0
+EndsJoinFrom plan files old new ended refused =
+    EndsJoinCommand plan files old new ended refused
+    ⊎ (AreUntouched files × (refused ≡ None) × HasUnread plan ended old new)
 
 -- ---- over files
 
--- the new file was opened, and given back at the end; meanwhile the old ones were read
-pub record HasJoined (to : List ℕ) (from : List (List ℕ)) (before after : List ℕ → Place) (old new : WireLog)
-    (ended : Result ⊤ CliFault) (refused : Option ℕ) : Type 0 where
+-- the new file was opened, and given back at the end; meanwhile the plan was read, from its file where it has one, and
+-- the old ones
+pub record HasJoined (to : List ℕ) (from : List (List ℕ)) (plan : Option (Bor (List ℕ))) (before after : List ℕ → Place)
+    (old new : WireLog) (ended : Result ⊤ CliFault) (refused : Option ℕ) : Type 0 where
   pub found : List ℕ → Place
   pub left : List ℕ → Place
   pub disk : DiskLog
@@ -108,17 +117,17 @@ pub record HasJoined (to : List ℕ) (from : List (List ℕ)) (before after : Li
   pub opens : OpensAs Create disk (before to)
   pub out : found to ≡ opened (before to)
   pub beside : StaysElsewhere to before found
-  pub ends : EndsJoinCommand (record { old = from; found = found; left = left; disk = disk; back = back }) old new ended
-      refused
+  pub ends : EndsJoinFrom (plan_place found plan)
+      (record { old = from; found = found; left = left; disk = disk; back = back }) old new ended refused
   pub shut : after to ≡ closed back (before to)
   pub others : StaysElsewhere to left after
 
--- how a join ends of the files at these paths, in the file at another: over what stands at each path; or that file was
--- not opened, nothing was read or written, and each file is as before
-abbrev pub EndsJoin : List ℕ → List (List ℕ) → (List ℕ → Place) → (List ℕ → Place) → WireLog → WireLog
-    → Result ⊤ CliFault → Option ℕ → Type 0
-EndsJoin to from before after old new ended refused =
-    HasJoined to from before after old new ended refused
+-- how a join ends of the files at these paths, in the file at another, and by that of its plan, if it has one: over what
+-- stands at each path; or the new file was not opened, nothing was read or written, and each file is as before
+abbrev pub EndsJoin : List ℕ → List (List ℕ) → Option (Bor (List ℕ)) → (List ℕ → Place) → (List ℕ → Place) → WireLog
+    → WireLog → Result ⊤ CliFault → Option ℕ → Type 0
+EndsJoin to from plan before after old new ended refused =
+    HasJoined to from plan before after old new ended refused
     ⊎ ((fault : OpenFault) × (MayNotOpen Create fault (before to) × ((path : List ℕ) → after path ≡ before path)
     × (ended ≡ Err (fault_of_files fault)) × (refused ≡ None) × (new ≡ old)))
 

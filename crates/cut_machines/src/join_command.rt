@@ -5,14 +5,15 @@ ghost use Rattle.cut_disks.specs.Log.{IsKnown, is_known, on};
 ghost use Rattle.cut_ledger.specs.Slips.{AreGood};
 ghost use Rattle.cut_join.specs.Joined.{joined};
 ghost use Rattle.cut_join.specs.Laws.{JoinedAreTrue, JoinedGiveThePlansTable};
-ghost use Rattle.cut_machines.specs.JoinCommand.{EndsJoin, EndsJoinCommand, NamesRefusedFile, joined_text};
+ghost use Rattle.cut_commands.specs.Run.{plan_place};
+ghost use Rattle.cut_machines.specs.JoinCommand.{EndsJoin, EndsJoinFrom, NamesRefusedFile, joined_text};
 ghost use Rattle.cut_machines.specs.inside.JoinCommand.{EndsJoining};
 ghost use Rattle.cut_machines.specs.inside.JoinSources.{StaysOpen};
 ghost use Rattle.cut_machines.specs.JoinTarget.{LeavesDisk, StopsWriting, writing_faults};
 
 use crate::join_sources::judged_slips;
 use crate::join_target::{Written, write_joined};
-use cut_commands::{CliFault, read_plan, write_answer};
+use cut_commands::{CliFault, PlanSource, write_answer};
 use cut_disks::Disk;
 use cut_files::{Files, Mode};
 use cut_join::laws::joined_slips_give_the_same_table;
@@ -21,6 +22,17 @@ use cut_plan::Plan;
 use cut_status::trials_held;
 use cut_wires::Wire;
 use std::alloc::Global;
+
+/// The files of a join.
+#[derive(Clone, Copy)]
+pub struct JoinedFiles<'a> {
+    /// The paths of the old checkpoints, in the order in which they are read.
+    pub from: &'a [&'a str],
+    /// The path of the new one.
+    pub to: &'a str,
+    /// The path of the file that the plan is read from, if it is not the wire.
+    pub plan: Option<&'a str>,
+}
 
 /// How a join of files ended.
 #[derive(Drop)]
@@ -39,13 +51,13 @@ struct Answered<N, T> {
     ended: Result<T, CliFault>,
 }
 
-/// Reads a plan from a wire, joins the slips of its study that the old files hold in a new checkpoint, in the file at
-/// another path, and writes how many slips there were, how many there are now, and how many trials of how many they
-/// hold.
+/// Reads a plan, joins the slips of its study that the old files hold in a new checkpoint, in the file at another path,
+/// and writes how many slips there were, how many there are now, and how many trials of how many they hold.
 ///
 /// The new file is opened before anything is read, and made where there is none; it is given back at the end. So an old
-/// path that names it too is refused, as a file that does not open. Each old file is opened when its turn comes, only
-/// read, and given back: so there may be more of them than a process can have open.
+/// path that names it too is refused, as a file that does not open. The plan is read next, from its own file where it has
+/// one, which is only read and may be open. Each old file is opened when its turn comes, only read, and given back: so
+/// there may be more of them than a process can have open.
 ///
 /// The old files are read in their order, and their slips are judged as one list, each by its number in that list, before
 /// anything is done to the new file. Then a study is made there, which has to hold none, and gets one slip for each
@@ -63,17 +75,17 @@ pub fn join<F: Files, W: Wire>(
     files: &mut F,
     alloc: Global,
     wire: &mut W,
-    old: &[&str],
-    new: &str,
+    paths: JoinedFiles<'_>,
 ) -> Joined
-    ensures ends { EndsJoin new.now (map (λ s. s.now) old.now) (F.log files.old) (F.log files.new)
-        (W.log wire.old) (W.log wire.new) result.ended result.refused }
-    ensures names { NamesRefusedFile (length old.now) result.ended result.refused }
+    ensures ends { EndsJoin paths.entry.to.now (map (λ s. s.now) paths.entry.from.now) paths.entry.plan
+        (F.log files.old) (F.log files.new) (W.log wire.old) (W.log wire.new) result.ended result.refused }
+    ensures names { NamesRefusedFile (length paths.entry.from.now) result.ended result.refused }
     ensures slips { JoinedAreTrue }
     ensures table { JoinedGiveThePlansTable }
 {
     joined_slips_give_the_same_table();
-    let disk = match files.open(new, Mode::Create) {
+    let to = paths.to;
+    let disk = match files.open(to, Mode::Create) {
         Ok(disk) => disk,
         Err(fault) => {
             return Joined {
@@ -86,8 +98,8 @@ pub fn join<F: Files, W: Wire>(
         disk,
         refused,
         ended,
-    } = join_onto(files, alloc, wire, old, disk);
-    files.close(new, disk);
+    } = join_onto(files, alloc, wire, paths, disk);
+    files.close(to, disk);
     Joined { refused, ended }
 }
 
@@ -96,11 +108,11 @@ fn join_onto<F: Files, W: Wire>(
     files: &mut F,
     alloc: Global,
     wire: &mut W,
-    old: &[&str],
+    paths: JoinedFiles<'_>,
     disk: F::Disk,
 ) -> Answered<F::Disk, ()>
-    ensures ends { EndsJoinCommand (record {
-      old = map (λ s. s.now) old.now;
+    ensures ends { EndsJoinFrom (plan_place (F.log files.old) paths.entry.plan) (record {
+      old = map (λ s. s.now) paths.entry.from.now;
       found = F.log files.old;
       left = F.log files.new;
       disk = F.Disk.log disk;
@@ -108,7 +120,8 @@ fn join_onto<F: Files, W: Wire>(
     }) (W.log wire.old) (W.log wire.new) result.ended result.refused }
     ensures stays { StaysOpen (F.log files.old) (F.log files.new) }
 {
-    let plan = match read_plan(alloc, wire) {
+    let source = PlanSource::of(&*files, paths.plan);
+    let plan = match source.read_plan(alloc, wire) {
         Ok(plan) => plan,
         Err(fault) => {
             return Answered {
@@ -122,7 +135,7 @@ fn join_onto<F: Files, W: Wire>(
         disk,
         refused,
         ended: text,
-    } = join_slips_of(files, alloc, &plan, old, disk);
+    } = join_slips_of(files, alloc, &plan, paths.from, disk);
     match text {
         Ok(text) => {
             let ended = write_answer(wire, text.as_bytes());

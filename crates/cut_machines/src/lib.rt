@@ -16,5 +16,5 @@ pub mod laws;
 mod share_answer;
 mod share_command;
 
-pub use join_command::{Joined, join};
+pub use join_command::{Joined, JoinedFiles, join};
 pub use share_command::{ShareWork, share};

@@ -59,7 +59,7 @@ subcommands =
       word_rule (codes "share") ∷ word_rule (codes "file")
           ∷ sizes ++ flag_rule (codes "progress") ∷ option_rule (codes "plan") ∷ [],
     )
-    ∷ (codes "join", word_rule (codes "new") ∷ files_rule ∷ flag_rule (codes "which") ∷ []) ∷ []
+    ∷ (codes "join", word_rule (codes "new") ∷ files_rule ∷ flag_rule (codes "which") ∷ option_rule (codes "plan") ∷ []) ∷ []
 
 -- the program as clap sees it: it has a version, needs one of its subcommands, and without a word it shows its help
 unfoldable pub program_app : App

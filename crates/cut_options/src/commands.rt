@@ -40,7 +40,7 @@ const SHARE_EXAMPLE: &str =
     "Example: cutlab share 2/8 --workers 4 share2.cut --plan plan.json\nAll shares of a study take one and the same --piece.\nSee docs/GUIDE.md.";
 
 const JOIN_EXAMPLE: &str =
-    "Example: cutlab join study.cut share1.cut share2.cut < plan.json\nAll shares of a study take one and the same --piece.\nSee docs/GUIDE.md.";
+    "Example: cutlab join study.cut share1.cut share2.cut --plan plan.json\nAll shares of a study take one and the same --piece.\nSee docs/GUIDE.md.";
 
 /// What the help says of the flag `--progress`.
 const PROGRESS_HELP: &str =
@@ -60,7 +60,7 @@ const PLAN_OPTION: Argument<'static> = Argument::Value {
 pub const SHARE_USAGE: &str = "cutlab share [OPTIONS] <I/N> <FILE>";
 
 /// How `join` is used.
-pub const JOIN_USAGE: &str = "cutlab join [OPTIONS] <NEW> <OLD>... < PLAN";
+pub const JOIN_USAGE: &str = "cutlab join [OPTIONS] <NEW> <OLD>...";
 
 /// A command: its name, how it is used, what its help says before its arguments and after them, and these arguments.
 #[derive(Clone, Copy)]
@@ -247,6 +247,7 @@ const JOIN: Described<'static> = Described {
             name: "which",
             help: "Say which of the old files is refused, on standard error",
         },
+        PLAN_OPTION,
     ],
 };
 

@@ -42,4 +42,5 @@ returns-clause-gives c =
           ∙ ap (λ (texts : List (Bor Text)). Some (map (λ s. s.now) texts)) (sym c.in_ok-old.ensures.items),
       omega (arith, c.if-old-gt-MOST_CHECKPOINTS.false, ap (λ (files : List (Bor Text)). length files) c.in_ok-old.ensures.items),
       c.flag_given.ensures,
+      c.plan_given.ensures,
     )

@@ -33,7 +33,7 @@ returns-in-Join-clause-ends g c =
     subst (λ (job : Job). EndsJob job before after old new c.run-in-Join.result) (sym c.in-Join.is) (
       ends.0,
       subst (λ (files : List (Bor (List ℕ))). EndsJoin c.in-Join.new.now (map (λ (s : Bor (List ℕ)). s.now) files)
-          before after old new c.run-in-Join.result ends.0) c.deref.ensures.value ends.1,
+          c.in-Join.plan before after old new c.run-in-Join.result ends.0) c.deref.ensures.value ends.1,
     )
 
 pub returns-in-Join-clause-prints : goal.returns-in-Join-clause-prints
@@ -44,7 +44,7 @@ returns-in-Join-clause-prints g c =
     (λ (files : List (Bor (List ℕ))). PrintsFileIf c.in-Join.which files c.run-in-Join.result old new)
     c.deref.ensures.value c.run-in-Join.ensures.prints in
     subst (λ (job : Job). PrintsOn job c.run-in-Join.result old new) (sym c.in-Join.is)
-    (prints_join c.in-Join.new c.in-Join.old c.in-Join.which c.run-in-Join.result old new prints)
+    (prints_join c.in-Join.new c.in-Join.old c.in-Join.which c.in-Join.plan c.run-in-Join.result old new prints)
 
 pub returns-in-Share-clause-ends : goal.returns-in-Share-clause-ends
 returns-in-Share-clause-ends g c =

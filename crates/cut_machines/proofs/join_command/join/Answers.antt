@@ -1,9 +1,10 @@
-use Rattle.std.proofs.Common.{◌∙◌, ℕ, Err, inl, inr, refl, ap, subst}
-use Rattle.cut_files.specs.Place.{closed}
+use Rattle.std.proofs.Common.{◌∙◌, ℕ, Err, Option, inl, inr, refl, ap, subst}
+use Rattle.cut_files.specs.Place.{Place, closed}
 use Rattle.cut_files.proofs.Everywhere.{stays_everywhere}
+use Rattle.cut_commands.specs.Run.{plan_place}
 use Rattle.cut_commands.specs.declared.fault.CliFault.{CliFault}
 use Rattle.cut_machines.specs.JoinCommand.{JoinFiles, NamesRefusedFile}
-use Rattle.cut_machines.proofs.JoinEnds.{can_be_shut, names_refused, shut_again, still_open}
+use Rattle.cut_machines.proofs.JoinEnds.{can_be_shut, names_from, shut_again, still_open}
 use Rattle.cut_machines.proofs.JoinSourceLemmas.{paths_length, paths_of}
 use Rattle.cut_machines.proofs.join_command.join.Goals as goal
 
@@ -12,7 +13,7 @@ returns-in-Err-clause-ends g c = inr (
   c.in-Err.fault,
   (
     c.in-Err.ensures.refused,
-    stays_everywhere c.args.new.now (g.F.Files.log c.args.files.now) (g.F.Files.log c.open.new.self)
+    stays_everywhere c.args.paths.to.now (g.F.Files.log c.args.files.now) (g.F.Files.log c.open.new.self)
         c.in-Err.ensures.elsewhere c.in-Err.ensures.stays,
     ap (λ (fault : CliFault). Err fault) c.from.ensures,
     refl,
@@ -22,14 +23,14 @@ returns-in-Err-clause-ends g c = inr (
 
 pub close-requires : goal.close-requires
 close-requires g c =
-    let before = g.F.Files.log c.args.files.now c.args.new.now in
-    can_be_shut before (g.F.Files.log c.join_onto-disk.new.files c.args.new.now)
-    (still_open c.args.new.now before (g.F.Files.log c.open.new.self) (g.F.Files.log c.join_onto-disk.new.files)
+    let before = g.F.Files.log c.args.files.now c.args.paths.to.now in
+    can_be_shut before (g.F.Files.log c.join_onto-disk.new.files c.args.paths.to.now)
+    (still_open c.args.paths.to.now before (g.F.Files.log c.open.new.self) (g.F.Files.log c.join_onto-disk.new.files)
     c.in-Ok.ensures.opened.1 c.join_onto-disk.ensures.stays)
 
 pub returns-clause-ends : goal.returns-clause-ends
 returns-clause-ends g c =
-    let before = g.F.Files.log c.args.files.now c.args.new.now in
+    let before = g.F.Files.log c.args.files.now c.args.paths.to.now in
     let found = g.F.Files.log c.open.new.self in
     let left = g.F.Files.log c.join_onto-disk.new.files in
     let back = g.F.Disk.Disk.log c.join_onto-disk.result.disk in
@@ -43,7 +44,7 @@ returns-clause-ends g c =
       beside = c.in-Ok.ensures.elsewhere;
       ends = c.join_onto-disk.ensures.ends;
       shut = c.close.ensures.closed
-          ∙ ap (closed back) (still_open c.args.new.now before found left c.in-Ok.ensures.opened.1
+          ∙ ap (closed back) (still_open c.args.paths.to.now before found left c.in-Ok.ensures.opened.1
           c.join_onto-disk.ensures.stays)
           ∙ shut_again back before;
       others = c.close.ensures.elsewhere;
@@ -52,14 +53,15 @@ returns-clause-ends g c =
 pub returns-clause-names : goal.returns-clause-names
 returns-clause-names g c =
     let files : JoinFiles = record {
-      old = paths_of c.args.old.now;
+      old = paths_of c.args.paths.from.now;
       found = g.F.Files.log c.open.new.self;
       left = g.F.Files.log c.join_onto-disk.new.files;
       disk = g.F.Disk.Disk.log c.in-Ok.disk;
       back = g.F.Disk.Disk.log c.join_onto-disk.result.disk;
     } in
+    let plan : Option Place = plan_place (g.F.Files.log c.open.new.self) c.args.paths.plan in
     let ended = c.join_onto-disk.result.ended in
     let refused = c.join_onto-disk.result.refused in
-    subst (λ (n : ℕ). NamesRefusedFile n ended refused) (paths_length c.args.old.now)
-    (names_refused files (g.W.Wire.log c.args.wire.now) (g.W.Wire.log c.join_onto-disk.new.wire) ended refused
-    c.join_onto-disk.ensures.ends.names)
+    subst (λ (n : ℕ). NamesRefusedFile n ended refused) (paths_length c.args.paths.from.now)
+    (names_from plan files (g.W.Wire.log c.args.wire.now) (g.W.Wire.log c.join_onto-disk.new.wire) ended refused
+    c.join_onto-disk.ensures.ends)
