@@ -1,11 +1,13 @@
 -- What a job prints, by what is asked for.
-use Rattle.std.proofs.Common.{ℕ, Bool, true, false, Bor, List, Option, Some, None, Result, Vec, Global}
+use Rattle.std.proofs.Common.{ℕ, Bool, true, false, Bor, List, Option, Some, None, Result, Vec, Global, map}
 use Rattle.std.specs.Bool.{⊤}
+use Rattle.cut_files.specs.Place.{Place}
+use Rattle.cut_machines.specs.JoinCommand.{EndsJoin}
 use Rattle.cut_wires.specs.Log.{WireLog}
 use Rattle.cut_command_line.specs.declared.line.Job.TheVariants.{Run, Share, Join}
 use Rattle.cut_commands.specs.declared.fault.CliFault.{CliFault}
-use Rattle.cut_jobs.specs.Jobs.{PrintsOn}
-use Rattle.cut_jobs.specs.inside.Printing.{PrintsFileIf, PrintsIf}
+use Rattle.cut_jobs.specs.Jobs.{PrintsOn, TellsRefused}
+use Rattle.cut_jobs.specs.inside.Printing.{PrintsFileIf, PrintsIf, TellsFileIf}
 
 pub prints_run : (piece workers : ℕ) (file : Option (Bor (List ℕ))) (progress : Bool)
     (plan : Option (Bor (List ℕ))) (ended : Result ⊤ CliFault)
@@ -24,3 +26,12 @@ pub prints_join : (to : Bor (List ℕ)) (from : Vec (Bor (List ℕ)) Global) (wh
     → PrintsOn (Join to from which plan) ended old new
 prints_join to from true plan ended old new is = is
 prints_join to from false plan ended old new is = is
+
+pub tells_join : (to : Bor (List ℕ)) (from : Vec (Bor (List ℕ)) Global) (which : Bool) (plan : Option (Bor (List ℕ)))
+    (before after : List ℕ → Place) (old new : WireLog) (ended : Result ⊤ CliFault) (errors_old errors_new : WireLog)
+    → TellsFileIf which (map (λ (s : Bor (List ℕ)). s.now) from.items)
+    (EndsJoin to.now (map (λ (s : Bor (List ℕ)). s.now) from.items) plan before after old new ended)
+    errors_old errors_new
+    → TellsRefused (Join to from which plan) before after old new ended errors_old errors_new
+tells_join to from true plan before after old new ended errors_old errors_new is = is
+tells_join to from false plan before after old new ended errors_old errors_new is = tt

@@ -76,6 +76,14 @@ PrintsRefused paths (Some place) old new =
     (before : List (List ℕ)) × (path : List ℕ) × (after : List (List ℕ)) × (paths ≡ before ++ path ∷ after)
     × (place ≡ length before + 1) × IsSent (file_line place path) old new
 
+-- the file that a join names there, where that is asked for, is the one that its end says is refused
+abbrev pub TellsRefused : Job → (List ℕ → Place) → (List ℕ → Place) → WireLog → WireLog → Result ⊤ CliFault → WireLog
+    → WireLog → Type 0
+TellsRefused (Join to from true plan) before after old new ended errors_old errors_new =
+    (refused : Option ℕ) × (EndsJoin to.now (map (λ s. s.now) from.items) plan before after old new ended refused
+    × PrintsRefused (map (λ s. s.now) from.items) refused errors_old errors_new)
+TellsRefused job before after old new ended errors_old errors_new = ⊤
+
 -- what a job that ends so prints on the errors before that is reported: progress, or which file is refused, where that
 -- is asked for
 abbrev pub PrintsOn : Job → Result ⊤ CliFault → WireLog → WireLog → Type 0

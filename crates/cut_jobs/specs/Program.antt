@@ -14,7 +14,7 @@ use Rattle.cut_command_line.specs.declared.line.Job.{Job}
 use Rattle.cut_commands.specs.Faults.{fault_line, status_of}
 use Rattle.cut_commands.specs.declared.fault.CliFault.{CliFault}
 use Rattle.cut_commands.specs.declared.fault.CliFault.TheVariants.{Memory, Write}
-use Rattle.cut_jobs.specs.Jobs.{EndsJob, PrintsOn}
+use Rattle.cut_jobs.specs.Jobs.{EndsJob, PrintsOn, TellsRefused}
 use Rattle.cut_jobs.specs.Sending.{IsCutShort, IsSent}
 
 -- how the end of a command is reported on the errors and by the status: nothing and 0 where it was done, else
@@ -33,6 +33,7 @@ pub record RunsJob (words : List (List ℕ)) (before after : List ℕ → Place)
   pub ends : EndsJob job before after old new ended
   pub errors_then : WireLog
   pub prints : PrintsOn job ended errors_old errors_then
+  pub tells : TellsRefused job before after old new ended errors_old errors_then
   pub reported : ReportsEnd ended errors_then errors_new status
 
 -- how a command line without a job is reported, by the status and the text that clap gives it

@@ -1,5 +1,5 @@
 ghost use Rattle.cut_command_line.specs.Line.{IsSizedJob};
-ghost use Rattle.cut_jobs.specs.Jobs.{EndsJob, PrintsOn};
+ghost use Rattle.cut_jobs.specs.Jobs.{EndsJob, PrintsOn, TellsRefused};
 
 use crate::join_job::JoinJob;
 use crate::run_job::{RunJob, WorkersJob};
@@ -45,6 +45,8 @@ where
     requires { IsSizedJob job }
     ensures ends { EndsJob job.entry (F.log files.old) (F.log files.new) (W.log wire.old) (W.log wire.new) result }
     ensures prints { PrintsOn job.entry result (E.log errors.old) (E.log errors.new) }
+    ensures tells { TellsRefused job.entry (F.log files.old) (F.log files.new) (W.log wire.old) (W.log wire.new) result
+        (E.log errors.old) (E.log errors.new) }
 {
     let alloc = system.host.alloc();
     match job {

@@ -5,7 +5,7 @@ ghost use Rattle.std.specs.Str.{chars};
 ghost use Rattle.cut_machines.specs.JoinCommand.{EndsJoin};
 ghost use Rattle.cut_jobs.specs.Jobs.{PrintsRefused, file_line};
 ghost use Rattle.cut_jobs.specs.Quoted.{quoted_char};
-ghost use Rattle.cut_jobs.specs.inside.Printing.{PrintsFileIf, WritesWhole, file_end, file_head};
+ghost use Rattle.cut_jobs.specs.inside.Printing.{PrintsFileIf, TellsFileIf, WritesWhole, file_end, file_head};
 ghost use Rattle.cut_jobs.specs.Sending.{IsSent};
 
 use crate::program::report;
@@ -43,6 +43,10 @@ impl JoinJob<'_> {
             (map (λ s. s.now) self.now.files.from.now) self.now.files.plan (F.log files.old) (F.log files.new)
             (W.log wire.old) (W.log wire.new) result refused }
         ensures prints { PrintsFileIf self.now.which self.now.files.from.now result
+            (E.log errors.old) (E.log errors.new) }
+        ensures tells { TellsFileIf self.now.which (map (λ s. s.now) self.now.files.from.now)
+            (EndsJoin self.now.files.to.now (map (λ s. s.now) self.now.files.from.now) self.now.files.plan
+            (F.log files.old) (F.log files.new) (W.log wire.old) (W.log wire.new) result)
             (E.log errors.old) (E.log errors.new) }
     {
         let Joined { refused, ended } = join(files, alloc, wire, self.files);

@@ -21,6 +21,11 @@ PrintsFileIf true files ended old new =
     × PrintsRefused (map (λ s. s.now) files) refused old new)
 PrintsFileIf false files ended old new = new ≡ old
 
+-- the one that is named there, where that is asked for, is the one that is refused where the join ended
+abbrev pub TellsFileIf : Bool → List (List ℕ) → (Option ℕ → Type 0) → WireLog → WireLog → Type 0
+TellsFileIf true paths ends old new = (refused : Option ℕ) × (ends refused × PrintsRefused paths refused old new)
+TellsFileIf false paths ends old new = ⊤
+
 -- what comes before the path in the line of a refused file, and after it
 abbrev pub file_head : ℕ → List ℕ
 file_head place = codes "cutlab: file " ++ decimal place ++ codes ": \""

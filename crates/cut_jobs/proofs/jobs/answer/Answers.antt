@@ -2,9 +2,9 @@ use Rattle.std.proofs.Common.{Bor, Err, List, Ok, map, refl, subst, sym, ℕ}
 use Rattle.cut_command_line.specs.declared.line.Job.{Job}
 use Rattle.cut_machines.specs.JoinCommand.{EndsJoin}
 use Rattle.cut_server.proofs.ReportLemmas.{ends_faulty, ends_reported}
-use Rattle.cut_jobs.specs.Jobs.{EndsJob, PrintsOn}
-use Rattle.cut_jobs.specs.inside.Printing.{PrintsFileIf}
-use Rattle.cut_jobs.proofs.JobLemmas.{prints_join, prints_run, prints_share}
+use Rattle.cut_jobs.specs.Jobs.{EndsJob, PrintsOn, TellsRefused}
+use Rattle.cut_jobs.specs.inside.Printing.{PrintsFileIf, TellsFileIf}
+use Rattle.cut_jobs.proofs.JobLemmas.{prints_join, prints_run, prints_share, tells_join}
 use Rattle.cut_jobs.proofs.jobs.answer.Goals as goal
 
 pub returns-in-Run-clause-prints : goal.returns-in-Run-clause-prints
@@ -68,3 +68,21 @@ returns-in-Err-clause-ends g c =
     let before = g.F.Files.log c.args.files.now in
     subst (λ (job : Job). EndsJob job before before old new (Err c.in-Err.fault)) (sym c.in-Serve.is)
     (ends_faulty c.in-Serve.studies c.in-Err.fault old new c.in-Err.ensures.writes, refl)
+
+pub returns-in-Join-clause-tells : goal.returns-in-Join-clause-tells
+returns-in-Join-clause-tells g c =
+    let old = g.W.Wire.log c.args.wire.now in
+    let new = g.W.Wire.log c.run-in-Join.new.wire in
+    let before = g.F.Files.log c.args.files.now in
+    let after = g.F.Files.log c.run-in-Join.new.files in
+    let errors_old = g.E.Wire.log c.args.errors.now in
+    let errors_new = g.E.Wire.log c.run-in-Join.new.errors in
+    let tells = subst
+    (λ (files : List (Bor (List ℕ))). TellsFileIf c.in-Join.which (map (λ (s : Bor (List ℕ)). s.now) files)
+    (EndsJoin c.in-Join.new.now (map (λ (s : Bor (List ℕ)). s.now) files) c.in-Join.plan before after old new
+    c.run-in-Join.result) errors_old errors_new)
+    c.deref.ensures.value c.run-in-Join.ensures.tells in
+    subst (λ (job : Job). TellsRefused job before after old new c.run-in-Join.result errors_old errors_new)
+    (sym c.in-Join.is)
+    (tells_join c.in-Join.new c.in-Join.old c.in-Join.which c.in-Join.plan before after old new c.run-in-Join.result
+    errors_old errors_new tells)
