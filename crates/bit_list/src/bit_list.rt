@@ -25,8 +25,7 @@ impl Model for BitList {
 }
 
 impl BitList {
-    /// A list of `len` bits, none of them set. Takes eight bytes for each 64 bits that are begun, and fails
-    /// only where memory runs out.
+    /// A list of `len` bits, none of them set. Takes eight bytes for each 64 bits that are begun.
     pub fn new(alloc: Global, len: u64) -> Result<BitList, AllocError>
         ensures { IfOk result (λ bits. bits ≡ replicate len false) }
     {

@@ -33,7 +33,6 @@ pub fn is_alert(rings: &Rings, roles: &Roles, edge: Edge) -> bool
 }
 
 /// The alerted edges of the first `k` rings, in strictly ascending order of edge number.
-/// Fails only where memory runs out.
 pub fn alerts(alloc: Global, rings: &Rings, k: u8, roles: &Roles) -> Result<Vec<Edge>, AllocError>
     requires rings { k ≤ length rings.now.positions }
     requires nodes { length roles.now.roles ≡ rings.now.nodes }

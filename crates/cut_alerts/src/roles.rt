@@ -44,10 +44,9 @@ impl Roles {
         }
     }
 
-    /// The roles that a trial of a cell draws: the processes of least rank by the trial's keys are the
-    /// targets, of which the last `plan.deaf_of(cell.f)` are deaf while the others have crashed; the
-    /// next ones are the liars, the next ones the sources of cut links (this project's profile). Fails
-    /// only where memory runs out.
+    /// The roles that a trial of a cell draws: the processes of least rank by the trial's keys are the targets, of
+    /// which the last `plan.deaf_of(cell.f)` are deaf while the others have crashed; the next ones are the liars, the
+    /// next ones the sources of cut links (this project's profile).
     pub fn of_trial(
         alloc: Global,
         plan: &Plan,

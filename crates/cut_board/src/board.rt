@@ -53,8 +53,7 @@ impl Board {
     ghost use Rattle.cut_board.specs.Refusals.{IsRefusedBy, draw_refusal, count_refusal, read_refusal};
     ghost use Rattle.cut_board.specs.Totals.{totals_of, IsDrawnOnce, HasSeenNoMore, IsWhyOf};
 
-    /// A board of 1 to 64 studies, from which nothing is drawn and on which nothing is counted, and its 1 to
-    /// 129 seats. Fails only where memory runs out.
+    /// A board of 1 to 64 studies, from which nothing is drawn and on which nothing is counted, and its 1 to 129 seats.
     pub fn start(alloc: Global, studies: u32, seats: u32) -> Result<(Board, Vec<Seat>), AllocError>
         requires studies { (0 < studies) × (studies ≤ 64) }
         requires seats { (0 < seats) × (seats ≤ 129) }

@@ -83,7 +83,7 @@ impl History {
         self.entries.len() as u64 + self.losses.len() as u64
     }
 
-    /// A list of the calls, in order. Fails only where memory runs out.
+    /// A list of the calls, in order.
     pub fn calls(&self, alloc: Global) -> Result<Vec<Call>, AllocError>
         ensures calls { IfOk result (λ calls. calls.items ≡ self.now.calls) }
         ensures legal { IsLegalHistory self.now.opening self.now.calls }
@@ -114,7 +114,7 @@ impl History {
         sum
     }
 
-    /// Makes room for a call that is no loss. Fails only where memory runs out.
+    /// Makes room for a call that is no loss.
     pub(crate) fn reserve(&mut self) -> Result<(), AllocError>
         ensures opening { self.new.opening ≡ self.old.opening }
         ensures calls { self.new.calls ≡ self.old.calls }

@@ -171,7 +171,7 @@ fn wrong_value(alloc: Global, matches: &ArgMatches) -> LineFault
     line_fault(alloc, ErrorKind::ValueValidation, error.as_ref())
 }
 
-/// The job that the matches of a command line name. Fails only where memory runs out.
+/// The job that the matches of a command line name.
 fn job_of<'a>(alloc: Global, matches: &ArgMatches<'a>) -> Result<Option<Job<'a>>, AllocError>
     ensures some { IfOk result (λ found. IfSome found (λ job. IsJobOf (subcommand_rows_of matches.now) job)) }
     ensures sized { IfOk result (λ found. IfSome found (λ job. IsSizedJob job)) }

@@ -46,7 +46,7 @@ pub(crate) fn share_job<'a>(given: &ArgMatches<'a>) -> Option<Job<'a>>
     })
 }
 
-/// The join that the matches of `join` give. Fails only where memory runs out.
+/// The join that the matches of `join` give.
 pub(crate) fn join_job<'a>(
     alloc: Global,
     given: &ArgMatches<'a>,

@@ -94,7 +94,7 @@ impl<'a> Detector<'a> {
         Step::Settled
     }
 
-    /// What it proposes, as a copy; `None` while it waits. Fails only where memory runs out.
+    /// What it proposes, as a copy; `None` while it waits.
     pub fn proposal(&self, alloc: Global) -> Result<Option<Proposal>, AllocError>
         ensures { IfOk result (λ p. p ≡ self.now.proposal) }
     {

@@ -18,7 +18,7 @@ impl Model for Written {
 }
 
 impl Written {
-    /// A copy of these bytes. Fails only where memory runs out.
+    /// A copy of these bytes.
     pub(crate) fn copy_of(alloc: Global, bytes: &[u8]) -> Result<Written, AllocError>
         ensures { IfOk result (λ written. written ≡ bytes.now) }
     {

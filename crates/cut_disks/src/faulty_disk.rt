@@ -42,7 +42,7 @@ impl Model for FaultyDisk {
 }
 
 impl FaultyDisk {
-    /// A disk of these bytes, not armed. Fails only where memory runs out.
+    /// A disk of these bytes, not armed.
     pub fn of(
         alloc: Global,
         bytes: Vec<u8>,

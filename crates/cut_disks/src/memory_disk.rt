@@ -34,7 +34,7 @@ impl Model for MemoryDisk {
 }
 
 impl MemoryDisk {
-    /// A disk of these bytes, all of them durable. Fails only where memory runs out.
+    /// A disk of these bytes, all of them durable.
     pub fn of(alloc: Global, bytes: Vec<u8>) -> Result<MemoryDisk, AllocError>
         ensures { IfOk result (λ disk. disk ≡ record { first = bytes.items; calls = []; failures = 0 }) }
     {

@@ -104,9 +104,9 @@ impl Arrivals<'_> {
 }
 
 impl Draws {
-    /// All deliveries of the given edges at a receiver, in the order in which they come: ascending by
-    /// key, edge number and copy. That the order is random and apart for each receiver is the Rapid
-    /// paper's, the keys are this project's profile. Fails only where memory runs out.
+    /// All deliveries of the given edges at a receiver, in the order in which they come: ascending by key, edge number
+    /// and copy. That the order is random and apart for each receiver is the Rapid paper's, the keys are this project's
+    /// profile.
     pub fn deliveries(
         &mut self,
         alloc: Global,

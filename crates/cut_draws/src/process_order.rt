@@ -60,8 +60,7 @@ impl ProcessOrder {
 }
 
 impl Draws {
-    /// The processes 0 to n - 1 in ascending order of key and number (this project's profile). Fails
-    /// only where memory runs out.
+    /// The processes 0 to n - 1 in ascending order of key and number (this project's profile).
     pub fn process_order(&mut self, alloc: Global, n: u16) -> Result<Vec<u16>, AllocError>
         ensures order { IfOk result (λ order. IsProcessOrder self.old n order.items) }
         ensures same { self.new ≡ self.old }

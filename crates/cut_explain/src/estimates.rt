@@ -31,7 +31,7 @@ pub struct Estimate {
 }
 
 impl Estimate {
-    /// The estimate as a line, with a line feed. Fails only where memory runs out.
+    /// The estimate as a line, with a line feed.
     pub fn line(&self, alloc: Global) -> Result<String, AllocError> {
         format!(in alloc; "{self}\n")
     }
@@ -114,12 +114,12 @@ impl fmt::Display for Amount {
     }
 }
 
-/// Estimates how long a processor works for the trials of a plan. It is `None` where the clock can't be read. Fails only
-/// where memory runs out.
+/// Estimates how long a processor works for the trials of a plan. It is `None` where the clock can't be read.
 ///
-/// It runs pieces of trials in cells that are spread evenly over the plan, for about a second, and takes the time of a trial
-/// to be the mean over them. A piece after which a larger one is run is left out, and so is the first: what a worker does
-/// once for a piece counts as little as it does in a study. What else is to be done but trials is the making of the rings.
+/// It runs pieces of trials in cells that are spread evenly over the plan, for about a second, and takes the time of a
+/// trial to be the mean over them. A piece after which a larger one is run is left out, and so is the first: what a
+/// worker does once for a piece counts as little as it does in a study. What else is to be done but trials is the
+/// making of the rings.
 pub fn estimate_study<C: CpuClock>(
     alloc: Global,
     clock: &C,

@@ -16,7 +16,7 @@ pub struct Explanation {
     pub text: String,
 }
 
-/// Explains a text. Fails only where memory runs out.
+/// Explains a text.
 ///
 /// After the first line come, for a plan, the numbers of its cells and trials, its quorum, the values that stand in no
 /// cell, how many keys are drawn at most, and how large its checkpoint gets at most; for any other text every finding,
@@ -32,7 +32,7 @@ pub fn explain(alloc: Global, text: &[u8]) -> Result<Explanation, AllocError>
     Ok(Explanation { plan, text: lines })
 }
 
-/// The plan that a text is, or its first fault. Fails only where memory runs out.
+/// The plan that a text is, or its first fault.
 fn read_plan(alloc: Global, text: &[u8]) -> Result<Result<Plan, Refusal>, AllocError>
     ensures { IfOk result (λ plan. plan_of text.now ≡ plan) }
 {

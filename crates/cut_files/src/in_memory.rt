@@ -7,7 +7,7 @@ use std::alloc::{AllocError, Global};
 
 /// A disk in memory: it is made where a file is made, and its bytes can be looked at without a call of it.
 pub trait InMemory: Disk {
-    /// The disk of a file that was just made. Fails only where memory runs out.
+    /// The disk of a file that was just made.
     fn empty(alloc: Global) -> Result<Self, AllocError>
         ensures { IfOk result (λ disk. Self.log disk ≡ new_file) };
 

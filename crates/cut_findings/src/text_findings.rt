@@ -13,7 +13,7 @@ use std::alloc::{AllocError, Global};
 use std::str;
 
 /// Lists what is wrong with a text as a plan, and the keys that stand in it more than once, a line for each. Of a text
-/// that is too long, no UTF-8 or no JSON that alone is said. Fails only where memory runs out.
+/// that is too long, no UTF-8 or no JSON that alone is said.
 pub fn list_findings(alloc: Global, out: &mut String, text: &[u8]) -> Result<(), AllocError> {
     if text.len() > LONGEST_TEXT {
         let length = text.len();

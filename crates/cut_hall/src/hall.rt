@@ -86,9 +86,8 @@ impl<D: Disk + Drop, K: CallLedger> LockedSlot<D, K> {
 }
 
 impl<D: Disk + Drop, M: CallLedger, K: CallLedger> Hall<D, M, K> {
-    /// A hall of 1 to 64 slots without studies, and its 1 to 129 passes. The blanks are for the two ledgers of
-    /// calls, of which the first has as many parts as passes, and the second as many as slots. Fails only where
-    /// memory runs out.
+    /// A hall of 1 to 64 slots without studies, and its 1 to 129 passes. The blanks are for the two ledgers of calls,
+    /// of which the first has as many parts as passes, and the second as many as slots.
     pub fn start(
         alloc: Global,
         slots: u32,
@@ -124,8 +123,8 @@ impl<D: Disk + Drop, M: CallLedger, K: CallLedger> Hall<D, M, K> {
         Ok((hall, given))
     }
 
-    /// A hall whose only slot has this book, of which nothing was asked yet, and its 1 to 129 passes. The blanks
-    /// are as in `start`. Fails only where memory runs out.
+    /// A hall whose only slot has this book, of which nothing was asked yet, and its 1 to 129 passes. The blanks are as
+    /// in `start`.
     pub fn of_book(
         alloc: Global,
         book: Book<D>,

@@ -21,7 +21,7 @@ pub struct Nodes {
 }
 
 impl Nodes {
-    /// The nodes of a trial with these alerted edges, which stand in ascending order. Fails only where memory runs out.
+    /// The nodes of a trial with these alerted edges, which stand in ascending order.
     pub fn of(alloc: Global, rings: &Rings, rule: Rule, edges: &[Edge]) -> Result<Nodes, AllocError>
         requires rings { rule.k ≤ length rings.now.positions }
         requires edges { edges.now ≡ edges_in rule.k rings.now.nodes (set_of edges.now) }

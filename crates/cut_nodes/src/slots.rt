@@ -27,7 +27,7 @@ pub struct Slots {
 }
 
 impl Slots {
-    /// The slots of edges of the first `k` rings, in order of the edges. Fails only where memory runs out.
+    /// The slots of edges of the first `k` rings, in order of the edges.
     pub fn of(alloc: Global, k: u8, edges: &[Edge]) -> Result<Slots, AllocError>
         requires rings { k ≤ 32 }
         requires edges { IsTrue (are_edges_of k MOST_NODES edges.now) }

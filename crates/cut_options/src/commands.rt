@@ -256,7 +256,7 @@ const COMMANDS: [Described<'static>; 10] = [
     RUN, CHECK, EXPLAIN, CANONICAL, STATUS, SERVE, ASK, MIGRATE, SHARE, JOIN,
 ];
 
-/// The program's commands, as clap reads them. Fails only where memory runs out.
+/// The program's commands, as clap reads them.
 pub fn program_commands<'a>(alloc: Global) -> Result<Command<'a>, AllocError>
     ensures { IfOk result (λ command. app_of command ≡ program_app) }
 {

@@ -285,7 +285,7 @@ impl Plan {
         trial / self.repeats
     }
 
-    /// A copy of the plan. Fails only where memory runs out.
+    /// A copy of the plan.
     pub fn try_clone(&self, alloc: Global) -> Result<Plan, AllocError>
         ensures value { IfOk result (λ p. p ≡ self.now) }
     {
@@ -307,10 +307,9 @@ impl Plan {
         })
     }
 
-    /// The plan of version 2 whose targets fail in the same way, so that every trial has the same
-    /// outcome but for the number that version 1 does not have: none of them is deaf where they crash, and
-    /// as many as the greatest number of failed processes where they are deaf. Of a plan of version 2 it is
-    /// a copy. Fails only where memory runs out.
+    /// The plan of version 2 whose targets fail in the same way, so that every trial has the same outcome but for the
+    /// number that version 1 does not have: none of them is deaf where they crash, and as many as the greatest number
+    /// of failed processes where they are deaf. Of a plan of version 2 it is a copy.
     pub fn upgrade(&self, alloc: Global) -> Result<Plan, AllocError>
         ensures value { IfOk result (λ p. p ≡ upgraded self.now) }
     {
@@ -368,8 +367,8 @@ impl Plan {
             && self.seed == other.seed
     }
 
-    /// The plan's one text: compact JSON, keys in byte order, the seed in lower-case digits. Two
-    /// plans say the same where their texts are equal. Fails only where memory runs out.
+    /// The plan's one text: compact JSON, keys in byte order, the seed in lower-case digits. Two plans say the same
+    /// where their texts are equal.
     pub fn canonical(&self, alloc: Global) -> Result<Vec<u8>, AllocError>
         ensures text { IfOk result (λ t. t.items ≡ canonical_text self.now) }
     {

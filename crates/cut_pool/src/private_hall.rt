@@ -63,7 +63,7 @@ pub(crate) struct PrivateHall<D: Disk, M: CallLedger, K: CallLedger> {
 
 impl<D: Disk + Drop, M: CallLedger, K: CallLedger> PrivateHall<D, M, K> {
     /// The hall of a study that has begun. The blanks are for the two ledgers of calls, of which the first has a part
-    /// for each worker, and the second has one part. Fails only where memory runs out.
+    /// for each worker, and the second has one part.
     pub(crate) fn open(
         alloc: Global,
         begun: OpenedStudy<D>,

@@ -48,7 +48,7 @@ impl Receivers {
         }
     }
 
-    /// Computes the times of four receivers, which may be the same. Fails only where memory runs out.
+    /// Computes the times of four receivers, which may be the same.
     pub fn hear(&mut self, trial: Trial<'_>, receivers: [u16; 4]) -> Result<(), AllocError>
         requires receivers { All (λ j. j < MOST_NODES) receivers }
         requires some { 0 < length trial.nodes.now.nodes.items }

@@ -35,9 +35,8 @@ impl Model for Rings {
 }
 
 impl Rings {
-    /// The rings of a plan: as many as its largest k, each in ascending order of the SHA-256 digest
-    /// of seed, ring number and process number (this project's profile, over FIPS 180-4). Fails only
-    /// where memory runs out.
+    /// The rings of a plan: as many as its largest k, each in ascending order of the SHA-256 digest of seed, ring
+    /// number and process number (this project's profile, over FIPS 180-4).
     pub fn hashed(alloc: Global, plan: &Plan) -> Result<Rings, AllocError>
         ensures { IfOk result
             (λ r. r ≡ hashed_layout plan.now.seed plan.now.nodes (largest plan.now.k)) }

@@ -15,7 +15,7 @@ pub(crate) struct Task {
     pub(crate) result: Option<PieceResult>,
 }
 
-/// This many tasks without pieces. Fails only where memory runs out.
+/// This many tasks without pieces.
 pub(crate) fn new_tasks(alloc: Global, count: usize) -> Result<Vec<Task>, AllocError>
     ensures { IfOk result (λ tasks. vec_len tasks ≡ count) }
 {

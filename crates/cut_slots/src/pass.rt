@@ -31,8 +31,7 @@ impl<M: CallLedger> Model for Pass<M> {
     ghost invariant = { λ p. p.made.parts ≡ 1 };
 }
 
-/// The passes of a hall, each a seat of its board with a part of the ledger of made calls. Fails only where memory runs
-/// out.
+/// The passes of a hall, each a seat of its board with a part of the ledger of made calls.
 pub fn deal<M: CallLedger>(
     alloc: Global,
     board: &Board,

@@ -14,10 +14,9 @@ use cut_plan::{Cell, Plan};
 use cut_rings::Rings;
 use std::alloc::{AllocError, Global};
 
-/// The outcome of a trial of a plan, whose rings these are. Trials are numbered through all cells.
-/// That each receiver hears the alerts in a random order of its own, and that conflicts are counted,
-/// is the Rapid paper's sensitivity study; the other numbers are this project's profile. Fails only
-/// where memory runs out.
+/// The outcome of a trial of a plan, whose rings these are. Trials are numbered through all cells. That each receiver
+/// hears the alerts in a random order of its own, and that conflicts are counted, is the Rapid paper's sensitivity
+/// study; the other numbers are this project's profile.
 pub fn run_trial(
     alloc: Global,
     plan: &Plan,

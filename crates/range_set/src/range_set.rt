@@ -31,8 +31,8 @@ impl Model for RangeSet {
 }
 
 impl RangeSet {
-    /// A set without numbers, whose length is that of its sections. It takes 24 bytes for each 65,536 numbers
-    /// that are begun in a section, and fails only where memory runs out.
+    /// A set without numbers, whose length is that of its sections. It takes 24 bytes for each 65,536 numbers that are
+    /// begun in a section.
     pub fn new(alloc: Global, sections: u32, section_len: u32) -> Result<RangeSet, AllocError>
         requires some { 0 < section_len }
         requires few { sections * section_len < 2 ^ 32 }
@@ -126,7 +126,7 @@ impl RangeSet {
         self.sections[section as usize].has_room()
     }
 
-    /// Makes room for a span in a section. Fails only where memory runs out.
+    /// Makes room for a span in a section.
     pub fn reserve(&mut self, section: u32) -> Result<(), AllocError>
         requires { section < length self.old.room }
         ensures ok { OnOk result (self.new ≡ record self.old { room = slice_set self.old.room section true }) }
@@ -153,7 +153,6 @@ impl RangeSet {
     }
 
     /// Adds the gaps of a span to others: the longest spans of its numbers that are not in the set, ascending.
-    /// Fails only where memory runs out.
     pub fn gaps_into(&self, span: Span, gaps: &mut Vec<Span>) -> Result<(), AllocError>
         requires { span.first + span.count ≤ length self.now.held }
         ensures { OnOk result (gaps.new.items
