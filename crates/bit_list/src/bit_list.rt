@@ -6,7 +6,7 @@ use std::marker::Model;
 /// How many bits a word has.
 const WORD_BITS: u64 = 64;
 
-/// Bits that are set one by one. Contracts see them as a list.
+/// A list of bits of a fixed length, each of which can be set. Contracts see a list of `bool`.
 #[derive(Debug, Drop)]
 pub struct BitList {
     words: Vec<u64>,
@@ -25,7 +25,7 @@ impl Model for BitList {
 }
 
 impl BitList {
-    /// A list of `len` bits, none of them set. Takes eight bytes for each 64 bits that are begun.
+    /// A list of `len` bits, none of them set. It takes eight bytes for each 64 bits, rounded up.
     pub fn new(alloc: Global, len: u64) -> Result<BitList, AllocError>
         ensures { IfOk result (λ bits. bits ≡ replicate len false) }
     {

@@ -1,7 +1,6 @@
-//! A list of bits of a fixed length, eight of them in a byte.
+//! A list of bits of a fixed length, packed in words.
 //!
-//! A [`BitList`] is made with as many bits as it will ever have, none of them set. Contracts see it as a list
-//! of `bool`.
+//! A [`BitList`] is made with all of its bits, none of them set. Contracts see a list of `bool`.
 #![tactic(auto)]
 
 mod bit_list;

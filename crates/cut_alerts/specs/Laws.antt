@@ -48,7 +48,7 @@ AllDeafDrawsDeaf =
 abbrev pub drawn_with : Values → ℕ → ℕ → Source → Layout → Assignment
 drawn_with v deaf f d r = drawn (with_failing v (Mixed deaf)) f d r
 
--- with one deaf target more, process p has turned: it is the crashed one of the highest rank, and is deaf then
+-- with one more deaf target, process p has changed: it was the crashed one of the highest rank, and is deaf now
 pub record HasTurned (v : Values) (deaf f : ℕ) (d : Source) (r : Layout) (p : ℕ) : Type 0 where
   pub process : p < v.nodes
   pub rank : process_rank d v.nodes p + deaf + 1 ≡ f
@@ -57,12 +57,12 @@ pub record HasTurned (v : Values) (deaf f : ℕ) (d : Source) (r : Layout) (p : 
       process_rank d v.nodes q ≤ process_rank d v.nodes p
   pub deaf_then : role_at (drawn_with v (deaf + 1) f d r) p ≡ Deaf
 
--- one deaf target more changes the role of one process at most, which turns
+-- one more deaf target changes the role of at most one process
 pub record TurnsOne (v : Values) (deaf f : ℕ) (d : Source) (r : Layout) : Type 0 where
   -- a process whose role changes has turned
   pub changed : (p : ℕ) → role_at (drawn_with v deaf f d r) p ≢ role_at (drawn_with v (deaf + 1) f d r) p →
       HasTurned v deaf f d r p
-  -- the process of that rank turns, where there is one
+  -- the process of that rank turns, if there is one
   pub turned : (p : ℕ) → p < v.nodes → process_rank d v.nodes p + deaf + 1 ≡ f → HasTurned v deaf f d r p
   -- no two turn
   pub one : (p q : ℕ) → HasTurned v deaf f d r p → HasTurned v deaf f d r q → p ≡ q

@@ -10,9 +10,8 @@ use cut_plan::Dead;
 use cut_rings::{Edge, Rings};
 use std::alloc::{AllocError, Global};
 
-/// Whether an edge is alerted: whether its observer raises an alert about its subject. That observers
-/// alert about failed subjects is the Rapid paper's; what deaf observers, liars and cut links add is
-/// this project's profile.
+/// Whether an edge is alerted: whether its observer raises an alert about its subject. Observers alert about failed
+/// subjects as in the Rapid paper; what deaf observers, liars and cut links add is defined by this project.
 pub fn is_alert(rings: &Rings, roles: &Roles, edge: Edge) -> bool
     requires ring { edge.ring < length rings.now.positions }
     requires subject { edge.subject < rings.now.nodes }
@@ -53,8 +52,8 @@ pub fn alerts(alloc: Global, rings: &Rings, k: u8, roles: &Roles) -> Result<Vec<
     Ok(edges)
 }
 
-/// Puts the alerted edges of the first `k` rings into a list, as `alerts` gives them, in place of what
-/// it held. Fails only where memory runs out, and the list is empty then.
+/// Puts the alerted edges of the first `k` rings into a list, as `alerts` gives them, in place of what it held. Fails
+/// only if memory runs out, and the list is empty then.
 pub fn alerts_into(
     edges: &mut Vec<Edge>,
     rings: &Rings,
@@ -83,7 +82,7 @@ pub fn alerts_into(
     filled
 }
 
-/// The alerted edges in a list in place of what it held, or a list of which nothing is known.
+/// Replaces the content of a list by the alerted edges. After an error it is unspecified.
 fn fill(list: &mut Vec<Edge>, rings: &Rings, k: u8, roles: &Roles) -> Result<(), AllocError>
     requires rings { k ≤ length rings.now.positions }
     requires nodes { length roles.now.roles ≡ rings.now.nodes }

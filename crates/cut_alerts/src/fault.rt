@@ -6,13 +6,13 @@ use std::alloc::AllocError;
 use std::fmt;
 use thiserror::Error;
 
-/// Why roles can't be given as asked. Printed, it is its number and its name.
+/// Why roles can't be assigned as asked. It is printed as its number and its name.
 #[derive(Debug, Drop, Error)]
 pub enum RolesFault {
-    /// A growth of memory was refused.
+    /// Memory ran out.
     Memory,
-    /// A process is out of range, or is named twice among targets, liars and link sources, or the ends
-    /// of a link are one process.
+    /// A process is out of range or named twice among targets, liars and link sources, or a link's ends are the same
+    /// process.
     BadRole,
 }
 

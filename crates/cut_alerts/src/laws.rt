@@ -16,8 +16,8 @@ pub fn as_many_deaf_draw_alike()
     ensures all { AllDeafDrawsDeaf }
 {}
 
-/// One deaf target more turns at most one process of a trial: the crashed one of the highest rank is
-/// deaf then, and every other process has the role that it had.
+/// One more deaf target changes the role of at most one process of a trial: the crashed one of the highest rank becomes
+/// deaf.
 pub fn one_more_deaf_turns_one()
     ensures { OneMoreDeafTurnsOne }
 {}

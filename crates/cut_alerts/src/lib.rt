@@ -1,8 +1,8 @@
 //! Roles and alerts: which processes fail in a trial, and which edges are alerted.
 //!
-//! The targets are the processes that fail; liars raise false alerts; a link source has one cut link.
-//! An observer raises an alert about a subject whose probes it can't hear (the Rapid paper's section
-//! on monitoring; who fails and how is this project's profile).
+//! The targets are the processes that fail; liars raise false alerts; a link source has one cut link. An observer
+//! raises an alert about a subject that does not answer its probes (the Rapid paper's section on monitoring; who fails
+//! and how is defined by this project).
 #![tactic(auto)]
 
 mod alerted;

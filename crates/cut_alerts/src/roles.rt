@@ -34,7 +34,7 @@ impl Model for Roles {
 }
 
 impl Roles {
-    /// The roles of no process.
+    /// No roles yet.
     pub fn none(alloc: Global) -> Roles
         ensures { result.roles ≡ [] }
     {
@@ -65,10 +65,9 @@ impl Roles {
         Ok(roles)
     }
 
-    /// Puts the roles that a trial of a cell draws, as `of_trial` gives them, in place of other roles,
-    /// in the memory that these and the order have. The order is left as that of the trial's processes.
-    /// Fails only where memory runs out: the roles are as they were then, and the order is empty or that of
-    /// the trial's processes.
+    /// Puts the roles that a trial of a cell draws, as `of_trial` gives them, in place of other roles, in the memory
+    /// that these and the order have. The order is left as that of the trial's processes. Fails only if memory runs
+    /// out: the roles are as they were then, and the order is empty or that of the trial's processes.
     pub fn draw(
         &mut self,
         plan: &Plan,

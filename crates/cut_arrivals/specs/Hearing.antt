@@ -42,7 +42,7 @@ proposal_at x =
 abbrev pub image_of : Hearing → Delivery → ℕ
 image_of x delivery = image_at x.source (delivery_place x.receiver x.rule.k delivery)
 
--- the first time of a delivery of each edge, by what the time of each delivery is; `end` where there is none
+-- the first time of a delivery of each edge, by what the time of each delivery is; `end` if there is none
 abbrev pub first_times : ℕ → (Delivery → ℕ) → List Delivery → EdgeTimes
 first_times end time deliveries ring s =
     rank_at end 1 (map time (filter (λ x. is_edge ring s x.edge) deliveries))

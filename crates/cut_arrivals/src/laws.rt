@@ -49,14 +49,14 @@ pub fn ranks_keep_rising_changes()
     ensures highs { HighsRise }
 {}
 
-/// Where nothing is doubted, the time by which all has ended that began before it stands for the first settled time,
-/// and gives its members, even where times are tied.
+/// If there is no doubt, the time by which all that began before it has ended gives the members of the first settled
+/// time, even if times are tied.
 pub fn closing_gives_the_members()
     ensures { ClosesAsSettled }
 {}
 
-/// What a receiver proposes has exactly the members that the images of its deliveries give by their closing time,
-/// where nothing is doubted. No order of the deliveries is needed, and ties of images do no harm.
+/// If there is no doubt, a receiver proposes exactly the members that the images of its deliveries give by their
+/// closing time. The deliveries need not be sorted, and tied images do no harm.
 pub fn images_give_the_members()
     ensures { ClosesAsProposed }
 {
@@ -104,8 +104,8 @@ pub fn few_values_give_lows_and_highs()
     images_are_below_never();
 }
 
-/// Whether the members lack a target, or have another process, follows from the processes that are reported in the end.
-/// Where neither is so, the members are the targets.
+/// Whether the members lack a target or have another process follows from the processes that are reported in the end.
+/// If neither holds, the members are the targets.
 pub fn nodes_show_the_verdict()
     ensures lacking { NodesShowLacking }
     ensures other { NodesShowOther }

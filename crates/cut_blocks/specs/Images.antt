@@ -26,8 +26,7 @@ row_of copy receiver = 2 ^ 16 + (copy * 2 ^ 11 + receiver) * 2 ^ 13
 abbrev pub eight : (ℕ → ℕ → ℕ) → List ℕ → List (List ℕ)
 eight f xs = map (λ q. map (λ x. f q x) xs) (range_with_len 0 8)
 
--- the least image over the copies of a key of a block, this many blocks after a row begins; `never` where there is no
--- copy
+-- the least image over the copies of a key of a block, this many blocks after a row begins; `never` if there is no copy
 unfoldable pub least_image : Source → ℕ → ℕ → ℕ → ℕ → ℕ
 least_image d copies block q row =
     fold (λ least c. min least (image_at d (place_in (row + (block + c * 2 ^ 24)) q))) never

@@ -63,8 +63,8 @@ impl Blocks {
     }
 
     /// Draws images for four receivers, in whose rows the keys of the first copy begin: for each of these blocks, so
-    /// far from a row's beginning, and for each of its eight keys the least image over the copies, or [`NEVER`] where
-    /// there are none. What stood in `images` is gone, also where memory runs out.
+    /// far from a row's beginning, and for each of its eight keys the least image over the copies, or [`NEVER`] if
+    /// there are none. What stood in `images` is gone, also if memory runs out.
     pub fn draw(
         &self,
         images: &mut Vec<[u32x4; 8]>,

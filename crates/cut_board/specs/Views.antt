@@ -33,7 +33,7 @@ amount_of e = 0
 
 -- ---- of one seat
 
--- the greatest number that entries have, 0 where there is none
+-- the greatest number that entries have, 0 if there is none
 abbrev pub greatest : (Entry → ℕ) → List Entry → ℕ
 greatest f [] = 0
 greatest f (e ∷ log) = max (f e) (greatest f log)

@@ -161,9 +161,9 @@ impl Board {
         )
     }
 
-    /// Ends the board, which takes all its seats, and reports what was drawn and counted of each study: of
-    /// the numbers, how many there are, which are those below that, each once. Where seats are missing, the
-    /// board and these seats come back as they were; where memory runs out, nothing does.
+    /// Ends the board, which takes all its seats, and reports what was drawn and counted of each study: of the numbers,
+    /// how many there are, which are those below that, each once. Where seats are missing, the board and these seats
+    /// come back as they were; if memory runs out, nothing does.
     pub fn finish(self, alloc: Global, seats: Vec<Seat>) -> Result<BoardTotals, Unfinished>
         requires { All (λ s. board_of s ≡ board_id self) seats.items }
         ensures totals { IfOk result (λ totals. totals ≡ totals_of (studies_of self) (views_of seats.items)) }

@@ -45,7 +45,7 @@ impl fmt::Display for SeatFault {
 /// Why a board was not finished. Printed, it is its number and its name.
 #[derive(Debug, Drop, Error)]
 pub enum Unfinished {
-    /// A growth of memory was refused. The board and its seats are gone.
+    /// Memory ran out. The board and its seats are gone.
     Memory,
     /// Fewer seats were brought than were made. The board and these seats come back.
     SeatMissing(Board, Vec<Seat>),

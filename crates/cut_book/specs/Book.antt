@@ -146,8 +146,8 @@ IsHandInFault other = ⊥
 
 -- ---- rows
 
--- what a call for the line of a cell leaves, by what it returned: the call is the last of the history, and
--- nothing else changes; where memory ran out nothing does
+-- what a call for the line of a cell leaves, by what it returned: the call is the last of the history, and nothing else
+-- changes; if memory ran out nothing does
 abbrev pub AsksRow : {T D : Type 0} → Result T BookFault → ℕ → BookValue D → BookValue D → Type 0
 AsksRow (Ok line) cell old new =
     (cell_done old.state.ledger cell ≡ true)

@@ -12,7 +12,7 @@ use cut_journal::Journal;
 use cut_journal::laws::{appends_follow_the_run, crashes_are_resumptions};
 use cut_outcome::PieceResult;
 
-/// Appends the slip of a result to a journal, if there is one. Fails where the disk does.
+/// Appends the slip of a result to a journal, if there is one. Fails if the disk does.
 pub(crate) fn append<D: Disk>(
     journal: &mut Option<Journal<D>>,
     offered: &PieceResult,

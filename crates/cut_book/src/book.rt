@@ -43,9 +43,9 @@ use std::marker::Model;
 
 /// A study under way: its ledger, its journal if it has one, which of its pieces are lost, and its history.
 ///
-/// Contracts see the journal; the state of the study, as the machine of a run has it, though what is drawn and
-/// what wires took is not a book's; the size of its pieces; its calls; and how many calls of the disk had
-/// failed when it was opened. What is said of the bytes on a disk is said where they are known.
+/// Contracts see the journal; the state of the study, as the machine of a run has it, though what is drawn and what
+/// wires took is not a book's; the size of its pieces; its calls; and how many calls of the disk had failed when it was
+/// opened. What is said of the bytes on a disk is said if they are known.
 #[derive(Drop)]
 pub struct Book<D: Disk> {
     ledger: Ledger,
@@ -75,12 +75,11 @@ impl<D: Disk> Model for Book<D> {
 }
 
 impl<D: Disk> Book<D> {
-    /// Opens a study over slips, with its journal if it has one, and divides the other trials into pieces of
-    /// this size. It is refused by the number of the first slip that is no piece of the plan, has a trial of
-    /// an earlier one, or whose totals are not possible ones. A journal is given up then.
+    /// Opens a study over slips, with its journal if it has one, and divides the other trials into pieces of this size.
+    /// It is refused by the number of the first slip that is not a piece of the plan, has a trial of an earlier one, or
+    /// whose totals are not possible ones. A journal is given up then.
     ///
-    /// The journal is as `create` or `reopen` answered it for that plan, and the slips are those that it
-    /// answered.
+    /// The journal is as `create` or `reopen` answered it for that plan, and the slips are those that it answered.
     pub fn new(
         alloc: Global,
         plan: Plan,
@@ -124,13 +123,12 @@ impl<D: Disk> Book<D> {
 
     /// Takes a result: keeps its slip, if there is a journal, and enters it into the ledger.
     ///
-    /// It is refused, in this order: where memory runs out for its place in the history; with Checkpoint where an
-    /// append has failed before; as a stranger, or an overlap; where memory runs out in the ledger; and with
-    /// Checkpoint where the disk fails now, after which nothing is taken any more. Every call is added to the
-    /// history, unless memory ran out.
+    /// It is refused, in this order: if memory runs out for its place in the history; with Checkpoint where an append
+    /// has failed before; as a stranger, or an overlap; if memory runs out in the ledger; and with Checkpoint where the
+    /// disk fails now, after which nothing is taken any more. Every call is added to the history, unless memory ran
+    /// out.
     ///
-    /// Whatever a crash leaves of the disk at any moment says the run as it is resumed after an append that
-    /// failed.
+    /// Whatever a crash leaves of the disk at any moment says the run as it is resumed after an append that failed.
     pub fn hand_in(&mut self, offered: &PieceResult) -> Result<(), BookFault>
         ensures answer { HandsIn (answer_of result self.old.state) offered.now self.old self.new }
         ensures only_faults { IfErr result IsHandInFault }

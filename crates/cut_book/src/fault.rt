@@ -12,7 +12,7 @@ use thiserror::Error;
 /// number of the slip or of the cell.
 #[derive(Debug, Drop, Error)]
 pub enum BookFault {
-    /// A growth of memory was refused.
+    /// Memory ran out.
     Memory,
     /// There is no piece of this number, or it is lost already.
     BadPiece,

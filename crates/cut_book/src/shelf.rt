@@ -11,7 +11,7 @@ use thiserror::Error;
 /// Why a shelf gave no disk.
 #[derive(Clone, Copy, Debug, PartialEq, Eq, Error)]
 pub enum ShelfFault {
-    /// A growth of memory was refused.
+    /// Memory ran out.
     #[error("the shelf was refused memory")]
     Memory,
     /// The disk could not be opened.

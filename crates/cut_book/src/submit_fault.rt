@@ -15,7 +15,7 @@ pub enum SubmitFault {
     SlotsFull,
     /// The study's disk could not be opened, or what it holds is none of the plan's.
     Checkpoint,
-    /// A growth of memory was refused.
+    /// Memory ran out.
     WorkMemory,
 }
 

@@ -51,7 +51,7 @@ fn slip_of((first, count): (u32, u32)) -> Slip {
     }
 }
 
-// A disk of these bytes that fails at a call from now on, or at none where that is 0.
+// A disk of these bytes that fails at a call from now on, or at none if that is 0.
 fn failing_disk(alloc: Global, bytes: &[u8], fail_at: u64) -> Result<FaultyDisk, AllocError> {
     let bytes = Vec::from_slice(alloc, bytes)?;
     let disk = FaultyDisk::of(alloc, bytes, fail_at, Tear::Nothing)?;

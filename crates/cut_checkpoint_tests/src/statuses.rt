@@ -43,7 +43,7 @@ fn files_are_read(rt: HostRuntime) -> Result<(), Fail> {
     Ok(())
 }
 
-// The status of the file at a path is written, and none where there is no file, or no study.
+// The status of the file at a path is written, and none if there is no file, or no study.
 #[test]
 fn a_file_has_its_status(rt: HostRuntime) -> Result<(), Fail> {
     let alloc = rt.alloc();

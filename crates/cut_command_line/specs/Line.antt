@@ -88,8 +88,8 @@ AsksForJob name rows (Join to from which plan) =
 abbrev pub NamesJob : List Text → Job → Type 0
 NamesJob words job = (sub : Text × List Row) × (subcommand_of program_app words ≡ Some sub) × AsksForJob sub.0 sub.1 job
 
--- the status with which the program ends where clap gives no matches: 0 where help was asked for, 5 where
--- memory ran out, and 2 at a mistake
+-- the status with which the program ends where clap gives no matches: 0 where help was asked for, 5 if memory ran out,
+-- and 2 at a mistake
 abbrev pub status_of_kind : ErrorKind → ℕ
 status_of_kind DisplayHelp = 0
 status_of_kind DisplayVersion = 0
@@ -103,8 +103,8 @@ IsAsked words kind =
     IsAmong kind (fault_of program_app words) ⊎ (kind ≡ OutOfMemory)
     ⊎ (((job : Job) → NamesJob words job → ⊥) × (fault_of program_app words ≡ []) × (kind ≡ ValueValidation))
 
--- how a command line without a job ends: with exactly the status of what clap found, and without a text where memory
--- ran out
+-- how a command line without a job ends: with exactly the status of what clap found, and without a text if memory ran
+-- out
 abbrev pub EndsLine : List Text → ℕ → List ℕ → Type 0
 EndsLine words status text =
     (kind : ErrorKind) × IsAsked words kind × (status ≡ status_of_kind kind) × (kind ≡ OutOfMemory → text ≡ [])

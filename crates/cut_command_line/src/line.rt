@@ -114,9 +114,9 @@ pub enum Job<'a> {
 /// prints, on standard output at status 0, as for help, and else on standard error.
 #[derive(Debug, Drop)]
 pub struct LineFault {
-    /// 0 for help, 2 for a mistake, 5 where memory ran out.
+    /// 0 for help, 2 for a mistake, 5 if memory ran out.
     pub status: u8,
-    /// What is printed, as clap writes it; empty where memory ran out, be it for the text alone.
+    /// What is printed, as clap writes it; empty if memory ran out, be it for the text alone.
     pub text: String,
 }
 
@@ -309,7 +309,7 @@ pub(crate) fn plan_given<'a>(given: &ArgMatches<'a>) -> Option<&'a str>
     given.get_str("plan")
 }
 
-/// The fault of a command line in which clap found this, with clap's text where it has one. Where memory ran out the
+/// The fault of a command line in which clap found this, with clap's text where it has one. If memory ran out, the
 /// fault has none.
 fn line_fault(alloc: Global, kind: ErrorKind, error: Option<&Error>) -> LineFault
     ensures status { result.status ≡ status_of_kind kind }

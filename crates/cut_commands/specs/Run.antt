@@ -56,10 +56,10 @@ pub record IsPrefix (task : Task) (v : Values) (written : List ℕ) : Type 0 whe
   pub count : ℕ
   pub prefix : written ≡ take count whole
 
--- what a command wrote that worked on a plan: all of its answer at Ok, and as many of its first bytes as are
--- reported where a write failed; nothing where memory ran out before that, a checkpoint was not opened, a slip of it
--- is bad or its slips were not all moved; and some first bytes of its answer where the checkpoint, memory or the
--- audit stopped a study that had begun, or nothing where memory did so before
+-- what a command wrote that worked on a plan: all of its answer at Ok, and as many of its first bytes as are reported
+-- where a write failed; nothing if memory ran out before that, a checkpoint was not opened, a slip of it is bad or its
+-- slips were not all moved; and some first bytes of its answer where the checkpoint, memory or the audit stopped a
+-- study that had begun, or nothing where memory did so before
 abbrev pub AnswersPlan : Task → Values → Result ⊤ CliFault → List ℕ → Type 0
 AnswersPlan task v (Ok done) written = task.answers v written
 AnswersPlan task v (Err (Write fault)) written =

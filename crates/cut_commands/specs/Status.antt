@@ -23,7 +23,7 @@ EndsOver bytes old new result =
 
 -- ---- over a file
 
--- how it ends over what stands at a path: over the bytes that were read there, which are those of the file where they are
+-- how it ends over what stands at a path: over the bytes that were read there, which are those of the file if they are
 -- known; or none were read, and nothing was written
 abbrev pub EndsStatus : Place → WireLog → WireLog → Result ⊤ CliFault → Type 0
 EndsStatus place old new result =

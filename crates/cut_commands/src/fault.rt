@@ -24,7 +24,7 @@ pub type FaultText = ArrayString<64>;
 /// writes on standard error.
 #[derive(Debug, Drop, Error)]
 pub enum CliFault {
-    /// A growth of memory was refused.
+    /// Memory ran out.
     Memory,
     /// The text that was read is no accepted plan.
     Plan(Refusal),
@@ -92,8 +92,8 @@ impl CliFault {
         }
     }
 
-    /// The status with which the program ends: 3 where a plan is refused, 5 where memory ran out, and 4 at
-    /// any other fault.
+    /// The status with which the program ends: 3 where a plan is refused, 5 if memory ran out, and 4 at any other
+    /// fault.
     pub fn status(&self) -> u8
         ensures { result ≡ status_of self.now }
     {

@@ -69,7 +69,7 @@ pub struct MigratedFiles<'a> {
 
 /// Moves a study as `migrate_io` does, from the file at one path to that at another.
 ///
-/// Both files are opened before anything is read, the old one first, and shut at the end. The new one is made where there
+/// Both files are opened before anything is read, the old one first, and shut at the end. The new one is made if there
 /// is none. One path can't be both. The file of a plan is read where the wire would be read.
 pub fn migrate<F: Files, W: Wire>(
     files: &mut F,

@@ -20,7 +20,7 @@ use std::thread::Threads;
 /// How a study is worked on, which changes nothing of its table.
 #[derive(Drop)]
 pub struct Work<'a, G> {
-    /// How many trials a piece has, but for the last one of a gap.
+    /// How many trials a piece has, except for the last one of a gap.
     pub piece_size: u32,
     /// How many workers there are, 1 to 64.
     pub workers: u32,
@@ -149,7 +149,7 @@ pub struct KeptWork<'a, G> {
 
 /// Runs a study as `run_io` does, which is kept in the file at a path.
 ///
-/// The file is opened before anything is read, and made where there is none. The file of a plan is read after that, where
+/// The file is opened before anything is read, and made if there is none. The file of a plan is read after that, where
 /// the wire would be read. Where what stands at the path is known, the contract says of which slips the table is.
 pub fn run<F, W, G, R>(
     files: &mut F,

@@ -25,7 +25,7 @@ pub record IsOfLeastPlace (r : Layout) (rule : Rule) (E : ℕ → EdgeSet) (coun
   pub members : (s : ℕ) → Contains p.members s ↔ ((s < r.nodes) × IsTrue (is_stable r rule (E p.at) s))
   pub ascending : IsStrictlyIncreasing p.members
 
--- a process proposes at the least such place, and only where there is none it does not
+-- a process proposes at the least such place, and only if there is none it does not
 abbrev pub ProposesAtLeastPlace : Type 0
 ProposesAtLeastPlace =
     (r : Layout) (rule : Rule) (E : ℕ → EdgeSet) (count : ℕ) →
@@ -103,29 +103,29 @@ TargetsAloneLeaveNoneUnstable =
     ReportsTargetsAlone r rule E is_target →
     (s : ℕ) → s < r.nodes → ¬ IsTrue (is_unstable r rule E s)
 
--- sets of edges of which none loses an edge that an earlier one has
+-- sets of edges, each of which contains the earlier ones
 abbrev pub Grows : (ℕ → EdgeSet) → Type 0
 Grows E = (m n ring s : ℕ) → m ≤ n → IsTrue (E m ring s) → IsTrue (E n ring s)
 
--- where q proposes p does, at the same place or before, and members of q alone
+-- if q proposes, p does, at the same place or earlier, and only members of q
 abbrev pub ProposesBefore : Option Proposal → Option Proposal → Type 0
 ProposesBefore p q =
     MatchOption q ⊤ (λ later. MatchOption p ⊥ (λ sooner. (sooner.at ≤ later.at)
     × ((s : ℕ) → Contains sooner.members s → Contains later.members s)))
 
--- who proposes with a higher H proposes with a lower one too, no later, and no further members
+-- a receiver that proposes with a higher H also proposes with a lower one, no later, and no other members
 abbrev pub AWiderGapProposesLater : Type 0
 AWiderGapProposesLater =
     (r : Layout) (k g h l : ℕ) (implicit : Bool) (E : ℕ → EdgeSet) (count : ℕ) → l ≤ h → h ≤ g → Grows E →
     ProposesBefore (proposal_of r (rule_of k h l implicit) E count) (proposal_of r (rule_of k g l implicit) E count)
 
--- without implicit alerts so does who proposes with a lower L: the gap is wider at both ends
+-- without implicit alerts the same holds for a lower L: the gap is wider at both ends
 abbrev pub AGapWiderAtBothEndsProposesLater : Type 0
 AGapWiderAtBothEndsProposesLater =
     (r : Layout) (k g h l m : ℕ) (E : ℕ → EdgeSet) (count : ℕ) → m ≤ l → l ≤ h → h ≤ g → Grows E →
     ProposesBefore (proposal_of r (rule_of k h l false) E count) (proposal_of r (rule_of k g m false) E count)
 
--- the sets of the first entries of a list of edges lose none, so that both laws are ones on lists
+-- the first entries of a list of edges are such sets, so that both laws hold for lists
 abbrev pub FirstEdgesGrow : Type 0
 FirstEdgesGrow = (edges : List Edge) → Grows (first_of edges)
 
@@ -149,12 +149,12 @@ ImplicitAlertsKeepMarked =
 abbrev pub IsPartOf : EdgeSet → EdgeSet → Type 0
 IsPartOf E F = (ring s : ℕ) → IsTrue (E ring s) → IsTrue (F ring s)
 
--- with more edges each process stays reported that is
+-- with more edges each reported process stays reported
 abbrev pub MoreEdgesKeepReported : Type 0
 MoreEdgesKeepReported =
     (rule : Rule) (E F : EdgeSet) (s : ℕ) → IsPartOf E F → IsTrue (is_reported rule E s) → IsTrue (is_reported rule F s)
 
--- and each stays stable that is
+-- and each stable process stays stable
 abbrev pub MoreEdgesKeepStable : Type 0
 MoreEdgesKeepStable =
     (r : Layout) (rule : Rule) (E F : EdgeSet) (s : ℕ) → IsPartOf E F →

@@ -94,7 +94,7 @@ impl<'a> Detector<'a> {
         Step::Settled
     }
 
-    /// What it proposes, as a copy; `None` while it waits.
+    /// A copy of the proposal, `None` if there is none yet.
     pub fn proposal(&self, alloc: Global) -> Result<Option<Proposal>, AllocError>
         ensures { IfOk result (λ p. p ≡ self.now.proposal) }
     {
@@ -108,7 +108,7 @@ impl<'a> Detector<'a> {
         }))
     }
 
-    /// The members of its proposal, ascending; `None` while it waits.
+    /// The members of the proposal, ascending, `None` if there is none yet.
     pub fn members(&self) -> Option<&[u16]>
         ensures { option_map (λ s. s.now) result ≡ option_map (λ p. p.members) self.now.proposal }
     {
@@ -119,7 +119,7 @@ impl<'a> Detector<'a> {
         }
     }
 
-    /// How many edges were delivered since it was made or reset; where it settled, up to that place.
+    /// How many edges were delivered since it was made or reset, up to the place of the proposal if there is one.
     pub fn deliveries(&self) -> u64
         ensures value { result ≡ self.now.deliveries }
         ensures place { IfSome self.now.proposal (λ p. p.at ≡ result) }
@@ -127,7 +127,7 @@ impl<'a> Detector<'a> {
         self.deliveries
     }
 
-    /// Forgets all that was delivered, and the proposal.
+    /// Forgets all deliveries and the proposal.
     pub fn reset(&mut self)
         ensures fresh { self.new ≡ fresh self.old.layout self.old.rule }
         ensures empty { HasDelivered self.new [] }

@@ -7,7 +7,7 @@ use crate::rule::Rule;
 use crate::tally::Tally;
 use cut_rings::{Edge, Rings};
 
-/// What implicit alerts rest on: the rings, the rule and the reported edges.
+/// What implicit alerts depend on: the rings, the rule and the reported edges.
 #[derive(Drop)]
 pub struct Gains<'a> {
     pub rings: &'a Rings,
@@ -33,7 +33,7 @@ impl<'a> Gains<'a> {
         self.rule.is_reported(self.reported.count(process))
     }
 
-    /// Lets an edge's ring count for its subject, where a process is reported.
+    /// Adds the edge's ring to those of its subject, if the process is reported.
     fn gain(&self, tally: &mut Tally, edge: Edge, process: u16)
         requires edge { (edge.ring < self.now.rule.k) × (edge.subject < self.now.rings.now.nodes) }
         requires process { process < self.now.rings.now.nodes }
@@ -48,7 +48,7 @@ impl<'a> Gains<'a> {
         }
     }
 
-    /// Lets the rings count that a reported process gains, and those that its subjects gain from it.
+    /// Adds the rings that a reported process gains, and those that its subjects gain from it.
     pub fn enter(&self, tally: &mut Tally, process: u16)
         requires process { process < self.now.rings.now.nodes }
         requires reported { IsTrue (is_reported (rule_of_gains self.now) (reported_in self.now) process) }

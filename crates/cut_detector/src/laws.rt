@@ -22,8 +22,7 @@ ghost use Rattle.cut_detector.specs.Laws.{
   NoneIsStableUnheard,
 };
 
-/// A process proposes all stable processes as soon as there is one and none is unstable, and no
-/// earlier delivery left it so.
+/// A process proposes all stable processes at the first delivery after which there is one and none is unstable.
 #[tactic(auto, using(crate::proofs::Places::proposes))]
 pub fn proposes_at_least_place()
     ensures { ProposesAtLeastPlace }
@@ -56,10 +55,10 @@ pub fn targets_alone()
     ensures unstable { TargetsAloneLeaveNoneUnstable }
 {}
 
-/// Who proposes with a higher H proposes with a lower one too, at the same place or an earlier one,
-/// and of the later members alone. Without implicit alerts the same holds of a lower L in place of a
-/// higher H, and of both. So a wider gap between the watermarks waits longer, and for more. This is for
-/// sets of edges that only grow, as the first entries of a list do.
+/// A receiver that proposes with a higher H also proposes with a lower one, at the same place or earlier, and only
+/// members of the later proposal. Without implicit alerts the same holds for a lower L instead of a higher H, and for
+/// both. So a wider gap between the watermarks waits longer, and for more. This is for sets of edges that only grow, as
+/// the first entries of a list do.
 #[tactic(auto, using(crate::proofs::Gaps::wider_gap))]
 pub fn a_wider_gap_proposes_later()
     ensures high { AWiderGapProposesLater }
@@ -75,7 +74,7 @@ pub fn implicit_alerts_only_add()
     ensures marked { ImplicitAlertsKeepMarked }
 {}
 
-/// More edges only add: what is reported on at least L rings stays so, and what is stable stays stable.
+/// More edges only add: a process that is reported on at least L rings stays so, and a stable process stays stable.
 #[tactic(auto, using(crate::proofs::Growing::more_edges))]
 pub fn more_edges_only_add()
     ensures reported { MoreEdgesKeepReported }

@@ -13,7 +13,7 @@ pub struct Masks {
     ghost below: { All (λ mask. mask < 2 ^ k) masks.items },
 }
 
-/// On how many rings a set had the edge to a process, and has it now.
+/// On how many rings a set has the edge to a process, before and after.
 #[derive(Clone, Copy, Debug)]
 pub struct Change {
     pub before: u32,

@@ -2,8 +2,7 @@ ghost use Rattle.std.specs.Prelude.{◌≡◌};
 
 use std::marker::Model;
 
-/// The processes of a proposal, ascending where a detector made it. Contracts see it as the list of
-/// their numbers.
+/// The processes of a proposal, ascending if a detector made it. Contracts see a list of numbers.
 #[derive(Debug, Drop)]
 pub struct Members {
     processes: Vec<u16>,
@@ -18,14 +17,14 @@ impl Model for Members {
 }
 
 impl Members {
-    /// The members that a `Vec` lists.
+    /// The members in a `Vec`.
     pub fn from_vec(processes: Vec<u16>) -> Members
         ensures { result ≡ processes.items }
     {
         Members { processes }
     }
 
-    /// The `Vec` that lists the members.
+    /// The members as a `Vec`.
     pub fn into_vec(self) -> Vec<u16>
         ensures { result.items ≡ self }
     {

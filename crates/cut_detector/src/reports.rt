@@ -13,7 +13,7 @@ use crate::tally::Tally;
 use cut_rings::{Edge, Rings};
 use std::alloc::{AllocError, Global};
 
-/// The edges that are reported, and the rings that they make count, with implicit alerts.
+/// The reported edges, and the rings that count by them, with implicit alerts.
 #[derive(Debug, Drop)]
 pub struct Reports<'a> {
     pub rings: &'a Rings,
@@ -74,7 +74,7 @@ impl<'a> Reports<'a> {
         self.tally.is_settled()
     }
 
-    /// Puts the stable processes into `members`, ascending, in place of what it held. It has room.
+    /// Replaces the content of `members`, which has room, by the stable processes, ascending.
     #[tactic(auto, using(crate::proofs::Settling::members_are))]
     pub fn gather(&self, members: &mut Vec<u16>)
         requires { self.now.rings.now.nodes ≤ vec_capacity members.old }

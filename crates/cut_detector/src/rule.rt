@@ -15,7 +15,7 @@ pub struct Rule {
 }
 
 impl Rule {
-    /// Whether a process with this many rings is reported, and so stable or unstable.
+    /// Whether a process with this many rings is stable or unstable.
     pub fn is_reported(self, rings: u32) -> bool
         ensures { result ≡ nat_le self.l rings }
     {

@@ -1,4 +1,4 @@
-/// What a delivery left a detector in (this project's profile).
+/// The state of a detector after a delivery.
 #[derive(Clone, Copy, Debug, PartialEq, Eq)]
 pub enum Step {
     /// There is no proposal yet.

@@ -12,8 +12,7 @@ use crate::rule::Rule;
 use cut_rings::Edge;
 use std::alloc::{AllocError, Global};
 
-/// Which rings count for each process, and how many processes that makes stable, and how many stable or
-/// unstable.
+/// Which rings count for each process, and how many processes are stable, and how many stable or unstable.
 #[derive(Debug, Drop)]
 pub struct Tally {
     pub rule: Rule,
@@ -48,7 +47,7 @@ impl Tally {
         })
     }
 
-    /// Lets an edge's ring count for its subject, and says whether L rings count for it only now.
+    /// Marks the edge's ring as counting for its subject. Returns true if it is the L-th.
     pub fn add(&mut self, edge: Edge) -> bool
         requires ring { edge.ring < self.old.rule.k }
         requires subject { edge.subject < vec_len self.old.full.masks }
@@ -76,7 +75,7 @@ impl Tally {
         self.stable > 0 && self.stable == self.marked
     }
 
-    /// Puts the stable processes into `members`, ascending, in place of what it held. It has room.
+    /// Replaces the content of `members`, which has room, by the stable processes, ascending.
     pub fn gather(&self, members: &mut Vec<u16>)
         requires { vec_len self.now.full.masks ≤ vec_capacity members.old }
         ensures members { members.new.items ≡
@@ -92,7 +91,7 @@ impl Tally {
         members.sort_unstable();
     }
 
-    /// Lets no ring count.
+    /// Removes all rings.
     pub fn clear(&mut self)
         ensures rule { self.new.rule ≡ self.old.rule }
         ensures full { self.new.full.masks.items ≡ replicate (vec_len self.old.full.masks) 0 }
@@ -104,7 +103,7 @@ impl Tally {
     }
 }
 
-// How many there are once one of them is in place of another, if at all.
+// The count after one process changed from `before` to `after`.
 fn moved(count: u32, before: bool, after: bool) -> u32
     requires few { count ≤ MOST_NODES }
     requires counted { cond before 1 0 ≤ count + cond after 1 0 }
@@ -113,7 +112,7 @@ fn moved(count: u32, before: bool, after: bool) -> u32
     count + u32::from(after) - u32::from(before)
 }
 
-// Notes a process, where it is new to the list. There is room for it.
+// Adds a process to a list with room, unless it is there.
 fn touch(touched: &mut Vec<u16>, process: u16, is_new: bool)
     requires { IsTrue is_new → vec_len touched.old < vec_capacity touched.old }
     ensures items { touched.new.items ≡ (if is_new then touched.old.items ++ process ∷ [] else touched.old.items) }

@@ -3,8 +3,8 @@ use Rattle.std.specs.Prelude.{ℕ, Bool}
 use Rattle.cut_disks.specs.declared.faulty_disk.Tear.{Tear}
 use Rattle.cut_disks.specs.Memory.{MemoryDiskValue}
 
--- the disk in memory, whether calls are being counted, how many calls from now the failing one is (0 where
--- none will fail), and what that leaves where it is a write
+-- the disk in memory, whether calls are counted, how many calls from now the failing one is (0 if none will fail), and
+-- what it leaves if it is a write
 pub record FaultyDiskValue : Type 0 where
   pub memory : MemoryDiskValue
   pub counting : Bool

@@ -7,6 +7,6 @@ use Rattle.cut_disks.specs.State.{IsImage, IsTorn, overwritten}
 abbrev pub ReadsAreImages : Type 0
 ReadsAreImages = (m : MemoryDiskValue) → IsImage (state_of m).stable (state_of m).bytes
 
--- a write changes nothing outside of its span
+-- a write changes only its span
 abbrev pub WritesStayInSpan : Type 0
 WritesStayInSpan = (bytes put : List ℕ) (at : ℕ) → IsTorn at (at + length put) bytes (overwritten bytes at put)

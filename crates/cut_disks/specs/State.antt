@@ -1,15 +1,15 @@
--- What is on a disk: what reads give, and what a crash may leave (this project's model of a disk).
+-- What is on a disk: what reads give, and what a crash may leave. This is the project's own model of a disk.
 use Rattle.std.specs.Prelude.{◌≡◌, ◌<◌, ◌≤◌, ◌+◌, ◌&&◌, ◌++◌, ◌⊎◌, ℕ, Bool, false, List, [], ◌∷◌, length, take, drop}
 use Rattle.std.specs.Prelude.{max, slice_index, nat_lt, nat_le, Result, Ok, Err, ⊤}
 use Rattle.std.specs.List.{list_any, AllByRecursion}
 
--- the places from `start` on, up to the one before `stop`
+-- the places `start` to `stop - 1`
 pub record Span : Type 0 where
   pub start : ℕ
   pub stop : ℕ
 
--- what is durable on the disk: its bytes at the last sync that succeeded, and the spans that were to be
--- written by the writes begun since then, those that failed too
+-- what is durable on the disk: its bytes at the last successful sync, and the spans of all writes begun since then,
+-- also of failed ones
 pub record Stable : Type 0 where
   pub synced : List ℕ
   pub spans : List Span
@@ -18,20 +18,20 @@ pub record Stable : Type 0 where
 abbrev pub covers : ℕ → Span → Bool
 covers i span = nat_le span.start i && nat_lt i span.stop
 
--- the greatest of a length and of the places where spans end
+-- the maximum of a length and of the places where spans end
 abbrev pub reach : ℕ → List Span → ℕ
 reach n [] = n
 reach n (span ∷ spans) = max span.stop (reach n spans)
 
--- what a crash may leave now: it is as long as what was synced, or longer, as far as a span goes; and at each
--- place that was synced and is in no span it has the byte that was synced
+-- what a crash may leave now: it is at least as long as what was synced and at most as long as the furthest span
+-- reaches; and each synced place that is in no span has its synced byte
 pub record IsImage (s : Stable) (bytes : List ℕ) : Type 0 where
   pub no_shorter : length s.synced ≤ length bytes
   pub no_longer : length bytes ≤ reach (length s.synced) s.spans
   pub same : (i : ℕ) → i < length s.synced → list_any (covers i) s.spans ≡ false → slice_index bytes i
       ≡ slice_index s.synced i
 
--- what reads give, what is durable, and what was durable before that since the disk was made, the newest first
+-- what reads give, what is durable, and what was durable earlier, newest first
 pub record DiskState : Type 0 where
   pub bytes : List ℕ
   pub stable : Stable
@@ -45,7 +45,7 @@ settled bytes = record { synced = bytes; spans = [] }
 abbrev pub fresh : List ℕ → DiskState
 fresh bytes = record { bytes = bytes; stable = settled bytes; past = [] }
 
--- bytes over which others were written from a place on
+-- bytes with others written over them from a place on
 abbrev pub overwritten : List ℕ → ℕ → List ℕ → List ℕ
 overwritten bytes at put = take at bytes ++ put ++ drop (at + length put) bytes
 
@@ -65,29 +65,29 @@ written d at put = begun d at (at + length put) (overwritten d.bytes at put)
 abbrev pub synced : DiskState → DiskState
 synced d = record { bytes = d.bytes; stable = settled d.bytes; past = d.stable ∷ d.past }
 
--- what a write may leave of bytes that goes wrong under way: they are as before but from `at` up to `stop`
+-- what a write that fails midway may leave: the bytes are as before except in `at` to `stop - 1`
 pub record IsTorn (at stop : ℕ) (old new : List ℕ) : Type 0 where
   pub no_shorter : length old ≤ length new
   pub no_longer : length new ≤ max stop (length old)
   pub same : (i : ℕ) → i < length old → covers i (record { start = at; stop = stop }) ≡ false → slice_index new i
       ≡ slice_index old i
 
--- a write wrote all; or it failed before it was begun, or after that
+-- a write wrote everything; or it failed, before it was begun or after
 abbrev pub WritesDisk : {E : Type 0} → Result ⊤ E → ℕ → List ℕ → DiskState → DiskState → Type 0
 WritesDisk (Ok done) at put old new = new ≡ written old at put
 WritesDisk (Err fault) at put old new =
     (new ≡ old) ⊎ ((torn : List ℕ) × (IsTorn at (at + length put) old.bytes torn
     × (new ≡ begun old at (at + length put) torn)))
 
--- a sync made all durable, or it failed and nothing
+-- a sync made everything durable, or it failed and made nothing durable
 abbrev pub Syncs : {E : Type 0} → Result ⊤ E → DiskState → DiskState → Type 0
 Syncs (Ok done) old new = new ≡ synced old
 Syncs (Err fault) old new = new ≡ old
 
 -- ---- moments
 
--- from one state of a disk to a later one, each image at each moment had this property: the moments are those
--- at both ends, those between the calls of the disk, and those inside of each
+-- from one state of a disk to a later one, each image at each moment has this property. The moments are those at both
+-- ends, those between the calls of the disk, and those within each call
 pub record Throughout (old new : DiskState) (P : List ℕ → Type 0) : Type 0 where
   pub since : List Stable
   pub goes_on : new.past ≡ since ++ old.past

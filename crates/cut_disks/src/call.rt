@@ -38,15 +38,14 @@ impl Written {
 /// A call of a disk in memory that changed something.
 #[derive(Debug, Drop)]
 pub enum DiskCall {
-    /// These bytes were written from this place on.
+    /// These bytes were written, beginning at a place.
     Write {
         /// The place of the first of them.
         at: u64,
         /// The bytes.
         put: Written,
     },
-    /// A write of the places from `at` up to the one before `stop` failed, after it was begun, and left them
-    /// as they were.
+    /// A write of the places `at..stop` failed after it was begun, and left them as they were.
     Torn {
         /// The first place.
         at: u64,

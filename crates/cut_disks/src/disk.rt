@@ -10,13 +10,13 @@ use thiserror::Error;
 #[error("a call of the disk failed")]
 pub struct DiskFault;
 
-/// A device of bytes that are read and written at places, which counts its calls that fail.
+/// A device whose bytes are read and written at places. It counts its failed calls.
 ///
-/// Contracts see its log: what is on it, where that is known, and how many of its calls failed. Each call is one relation
-/// between two logs. What a call did, and what a crash may leave at each moment, is known of a disk in memory. Of a real
-/// file that is a premise, and no clause says it.
+/// Contracts see its log: what is on it, if that is known, and how many of its calls failed. Each call is one relation
+/// between two logs. For a disk in memory it is known what a call did and what a crash may leave at each moment. For a
+/// real file that is a premise, and no clause says it.
 ///
-/// A call that fails counts once, and one that does not leaves the count; at 2^64 - 1 it stays.
+/// A failed call adds one to the count, which stays at 2^64 - 1 once it is there. Other calls leave it.
 pub trait Disk {
     /// What is known of the disk.
     ghost log: { Self → DiskLog };
@@ -26,14 +26,14 @@ pub trait Disk {
         ensures bound { IfOk result (λ n. n < 2 ^ 63) }
         ensures measures { Goes (counted result) (Measures result) (log self.old) (log self.new) };
 
-    /// Reads bytes from a place on, as many as fit. They have to be there. What reads give is one of the
-    /// contents that a crash could leave now.
+    /// Fills `into` with the bytes from `at` on, which have to be there. What reads give is one of the contents that a
+    /// crash could leave now.
     fn read(&mut self, at: u64, into: &mut [u8]) -> Result<(), DiskFault>
         requires { Knows (log self.old) (λ d. at + length into.old ≤ length d.bytes) }
         ensures reads { Goes (counted result) (ReadsDisk result at into.old into.new) (log self.old) (log self.new) };
 
-    /// Writes bytes from a place on, which is at most the length. Where they go past the end, the disk gets
-    /// longer; a write that would make it 2^63 bytes long fails.
+    /// Writes bytes from `at` on, which is at most the length. A write past the end makes the disk longer. A write that
+    /// would make it 2^63 bytes long fails.
     fn write_at(&mut self, at: u64, put: &[u8]) -> Result<(), DiskFault>
         requires { Knows (log self.old) (λ d. at ≤ length d.bytes) }
         ensures bound { OnOk result (at + length put.now < 2 ^ 63) }
@@ -48,7 +48,7 @@ pub trait Disk {
         ensures { result ≡ (log self.now).failed };
 }
 
-/// A disk that is borrowed is one.
+/// A borrowed disk is a disk.
 impl<D: Disk> Disk for &mut D {
     ghost log = { λ d. D.log d.now };
 

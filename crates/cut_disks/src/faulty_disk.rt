@@ -10,7 +10,7 @@ use std::alloc::{AllocError, Global};
 use std::cell::Cell;
 use std::marker::Model;
 
-/// What a write leaves that fails after it was begun.
+/// What is left by a write that fails after it was begun.
 #[derive(Clone, Copy, Debug, PartialEq, Eq)]
 pub enum Tear {
     /// Its places are as before.
@@ -19,11 +19,10 @@ pub enum Tear {
     Everything,
 }
 
-/// A disk in memory that fails once, at the call that it is given, to try out what a failure leaves.
+/// A disk in memory that fails once, at a chosen call, to try out what a failure leaves.
 ///
-/// From the moment it is armed its calls are counted, from 1, all of `length`, `read`, `write_at` and `sync`;
-/// the one with the number `fail_at` fails, none where that is 0. Before and after, it is as any other in
-/// memory.
+/// Once it is armed, its calls of `length`, `read`, `write_at` and `sync` are counted from 1, and call number `fail_at`
+/// fails; with 0 none does. Otherwise it is like any other disk in memory.
 #[derive(Drop)]
 pub struct FaultyDisk {
     memory: MemoryDisk,
@@ -93,7 +92,7 @@ impl FaultyDisk {
         due
     }
 
-    /// Fails a write, and leaves of it what the disk was made to leave, or nothing where memory runs out.
+    /// Fails a write, and leaves of it what the disk was made to leave, or nothing if memory runs out.
     fn fail_write(&mut self, at: u64, put: &[u8])
         requires { at ≤ length (state_of self.old.memory).bytes }
         ensures memory { FailsWith (torn_call self.old.tear at put.now) self.old.memory self.new.memory }

@@ -11,12 +11,12 @@ const MOST_BYTES: u64 = (1 << 63) - 1;
 
 /// A file of the system as a disk.
 ///
-/// Nothing is promised of what it holds: that the system keeps what a sync made durable, and that no one else
-/// writes the file, are premises. What is promised is which call of the system is made: a call of the disk that
-/// succeeds is that one call.
+/// Nothing is promised of what it holds: it is a premise that the system keeps what a sync made durable, and that
+/// nobody else writes the file. What is promised is which call of the system is made: a call of the disk that succeeds
+/// is exactly that call.
 ///
-/// A sync is `File::sync_all`, which on Linux is the call fsync: the bytes and the length reach the device. The
-/// file is never cut. A call is a failing one also where an interruption came so often that it was given up.
+/// A sync is `File::sync_all`, which on Linux is the call fsync: the bytes and the length reach the device. The file is
+/// never truncated. A call that is interrupted too often is given up, and counts as failed.
 ///
 /// Contracts see the file as its own values, and how many calls failed.
 #[derive(Drop)]
@@ -34,8 +34,8 @@ impl<F: RawFile> Model for FileDisk<F> {
 }
 
 impl<F: RawFile + Drop> FileDisk<F> {
-    /// The disk of a file. It is asked whether it is a regular one, then locked, and then its folder is synced.
-    /// Nothing else makes a disk of a file.
+    /// The disk of a file. It checks that the file is a regular one, locks it, and then syncs its folder. Nothing else
+    /// makes a disk of a file.
     pub fn over(file: F) -> Result<FileDisk<F>, DiskFault>
         ensures ready { IfOk result (λ disk. (found : F) × ((locked : F) ×
             (F.kind_reported file true found × F.locked found locked × F.synced_folder locked disk.raw))) }
@@ -52,7 +52,7 @@ impl<F: RawFile + Drop> FileDisk<F> {
     }
 }
 
-/// Finds that a file is a regular one, locks it, and makes its entry in its folder durable.
+/// Checks that a file is a regular one, locks it, and makes its entry in its folder durable.
 fn make_ready<F: RawFile>(file: &mut F) -> io::Result<()>
     ensures { OnOk result ((found : F) × ((locked : F) ×
         (F.kind_reported file.old true found × F.locked found locked × F.synced_folder locked file.new))) }
@@ -134,7 +134,7 @@ fn length_of<F: RawFile>(file: &mut F) -> io::Result<u64>
     Ok(length)
 }
 
-/// Writes bytes at a place, where the file stays below 2^63 bytes.
+/// Writes bytes at a place, if the file stays below 2^63 bytes.
 fn write_within<F: RawFile>(file: &mut F, at: u64, put: &[u8]) -> io::Result<()>
     ensures called { OnOk result (F.wrote file.old at put.now file.new) }
     ensures bound { OnOk result (at + length put.now < 2 ^ 63) }

@@ -7,7 +7,7 @@ pub fn reads_are_images()
     ensures { ReadsAreImages }
 {}
 
-/// A write changes nothing outside of the places that it writes.
+/// A write changes only the places that it writes.
 pub fn writes_stay_in_their_span()
     ensures { WritesStayInSpan }
 {}

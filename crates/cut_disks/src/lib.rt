@@ -1,8 +1,7 @@
-//! Disks: a list of bytes that is read and written at places, of which a crash may leave less than was
-//! written.
+//! Disks: bytes that are read and written at places, of which a crash may leave less than was written.
 //!
-//! A disk fails at a call now and then, and counts those calls. What a crash may leave is said of a disk in
-//! memory; of a real file it is a premise.
+//! Any call of a disk may fail, and failed calls are counted. What a crash may leave is defined for a disk in memory;
+//! for a real file it is a premise.
 #![tactic(auto)]
 
 mod call;

@@ -11,7 +11,7 @@ use std::marker::Model;
 
 /// A disk in memory, which keeps each call that changed something.
 ///
-/// A call fails only where it doesn't find the memory that it takes, and then does nothing.
+/// A call fails only if memory runs out, and then it does nothing.
 #[derive(Debug, Drop)]
 pub struct MemoryDisk {
     alloc: Global,
@@ -75,7 +75,7 @@ impl MemoryDisk {
         self.failures.add();
     }
 
-    /// Writes, or does nothing where memory runs out.
+    /// Writes, or does nothing if memory runs out.
     pub(crate) fn put(&mut self, at: u64, put: &[u8]) -> Result<(), AllocError>
         requires { at ≤ length (state_of self.old).bytes }
         ensures ok { OnOk result (self.new ≡ with_call self.old (Write at put.now)) }
@@ -89,7 +89,7 @@ impl MemoryDisk {
         Ok(())
     }
 
-    /// Begins a write that leaves the bytes as they are, or does nothing where memory runs out.
+    /// Begins a write that leaves the bytes as they are, or does nothing if memory runs out.
     pub(crate) fn tear(&mut self, at: u64, put: &[u8]) -> Result<(), AllocError>
         requires { at ≤ length (state_of self.old).bytes }
         ensures ok { OnOk result (self.new ≡ with_call self.old (Torn at (at + length put.now))) }
@@ -100,7 +100,7 @@ impl MemoryDisk {
         self.note(DiskCall::Torn { at, stop })
     }
 
-    /// Notes a call that leaves the bytes as they are, or does nothing where memory runs out.
+    /// Records a call that leaves the bytes as they are, or does nothing if memory runs out.
     fn note(&mut self, call: DiskCall) -> Result<(), AllocError>
         requires { (state_of (with_call self.old call)).bytes ≡ (state_of self.old).bytes }
         ensures ok { OnOk result (self.new ≡ with_call self.old call) }
@@ -172,7 +172,7 @@ impl Disk for MemoryDisk {
     }
 }
 
-/// Writes over bytes from a place on, or leaves them where memory runs out.
+/// Overwrites bytes from `at` on, or leaves them if memory runs out.
 fn overwrite(bytes: &mut Vec<u8>, at: usize, put: &[u8]) -> Result<(), AllocError>
     requires { at ≤ length bytes.old.items }
     ensures ok { OnOk result (bytes.new.items ≡ overwritten bytes.old.items at put.now) }

@@ -4,11 +4,11 @@ use std::io;
 
 /// The calls of the system on an open file and on its folder.
 ///
-/// Each ghost member is what one call did that succeeded, between the value before it and the one after it. Of
-/// these nothing else is known. So where a clause says that one of them holds between two values, that call
-/// was made, once, and no other one with it.
+/// Each ghost member says what one successful call did, between the value before it and the value after it. Nothing
+/// else is known of them. So a clause that says one of them of two values says that this call was made, once, and no
+/// other.
 pub trait RawFile {
-    /// It was asked whether this is a regular file.
+    /// The kind of the file was returned: whether it is a regular one.
     ghost kind_reported: { Self → Bool → Self → Type 0 };
 
     /// The lock on the file was taken.
@@ -17,7 +17,7 @@ pub trait RawFile {
     /// The folder was synced.
     ghost synced_folder: { Self → Self → Type 0 };
 
-    /// The length was asked.
+    /// The length was returned.
     ghost length_reported: { Self → ℕ → Self → Type 0 };
 
     /// These bytes were read, all of them, from this place on.
@@ -45,11 +45,11 @@ pub trait RawFile {
     fn length(&mut self) -> io::Result<u64>
         ensures { IfOk result (λ n. length_reported self.old n self.new) };
 
-    /// Reads bytes from a place on, as many as fit.
+    /// Fills `into` with the bytes from `at` on.
     fn read_exact_at(&mut self, into: &mut [u8], at: u64) -> io::Result<()>
         ensures { OnOk result (was_read self.old at into.new self.new) };
 
-    /// Writes bytes from a place on.
+    /// Writes all bytes from `at` on.
     fn write_all_at(&mut self, put: &[u8], at: u64) -> io::Result<()>
         ensures { OnOk result (wrote self.old at put.now self.new) };
 

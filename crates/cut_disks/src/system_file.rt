@@ -8,12 +8,11 @@ use std::io::{self, ErrorKind};
 use std::os::unix::fs::FileExt;
 use std::path::Path;
 
-/// A file of the system, and its folder. Each call is handed on to the call of the same name.
+/// A file of the system, and its folder. Each call is passed on to the system's call of the same name.
 ///
-/// Which call that is has to be taken on trust. The library says nothing of a file's calls that a clause could
-/// carry, so each ghost member below holds of any two values, and a body that did nothing would be proved too.
-/// These bodies are a line each, and so is what `open` adds to them: which flags a file is opened with, and
-/// which path its folder is opened by. The tests on real files look at them.
+/// That it is this call has to be trusted. The library's contracts say nothing of a file's calls, so each ghost member
+/// below holds of any two values, and a body that did nothing would be proved as well. Each body is one line, and so is
+/// what `open` adds: the flags by which a file is opened, and the path of its folder. Tests on real files cover them.
 #[derive(Drop)]
 pub struct SystemFile {
     file: File,
@@ -21,7 +20,7 @@ pub struct SystemFile {
 }
 
 impl SystemFile {
-    /// Opens a file and its folder, and makes the file where there is none. What stands there is looked at before.
+    /// Opens a file and its folder, and creates the file if there is none. What stands at the path is checked first.
     pub fn open<R: Files<File = File>>(rt: &R, path: &str) -> io::Result<SystemFile> {
         match check_regular(rt, path) {
             Err(error) if error.kind() != ErrorKind::NotFound => return Err(error),
@@ -36,7 +35,7 @@ impl SystemFile {
         SystemFile::in_folder(rt, file, path)
     }
 
-    /// Opens a file that is there, for reads alone, and its folder.
+    /// Opens an existing file, for reading alone, and its folder.
     pub fn open_existing<R: Files<File = File>>(rt: &R, path: &str) -> io::Result<SystemFile> {
         let file = open_regular(rt, path)?;
         SystemFile::in_folder(rt, file, path)
@@ -50,17 +49,16 @@ impl SystemFile {
 }
 
 impl FileDisk {
-    /// Opens the regular file at a path, or makes an empty one, and holds the lock on it (`File::try_lock`)
-    /// until the disk is dropped.
+    /// Opens the regular file at a path, or creates an empty one, and holds the lock on it (`File::try_lock`) until the
+    /// disk is dropped.
     ///
-    /// Its folder is synced each time (`File::sync_all` of the folder), so that the entry is durable, also where an
-    /// earlier call made the file and was ended before it synced the folder. Fails where there is something
-    /// else than a regular file, where the file can't be read and written, where another program holds the
-    /// lock, and where the folder isn't synced. A call that fails may leave a new, empty file; a file that was
-    /// there is not changed.
+    /// Its folder is synced each time (`File::sync_all` of the folder), so that the entry is durable even if an earlier
+    /// call created the file and was killed before it synced the folder. It fails if something else than a regular file
+    /// stands there, if the file can't be read and written, if another program holds the lock, and if the folder can't
+    /// be synced. A call that fails may leave a new, empty file; a file that was there is not changed.
     ///
     /// No clause says this, as none can for a `SystemFile`. But the fields of a disk are private to the module of
-    /// `over`, so that no disk is made here but by that call, whose clause `ready` holds for each file.
+    /// `over`, so every disk here is made by that call, whose clause `ready` holds for each file.
     pub fn open(rt: &HostRuntime, path: &str) -> Result<FileDisk, DiskFault> {
         match SystemFile::open(rt, path) {
             Ok(file) => FileDisk::over(file),
@@ -68,8 +66,8 @@ impl FileDisk {
         }
     }
 
-    /// Opens the regular file at a path, which is there, for reads alone, and holds the lock on it, as `open` does. No
-    /// file is made, and none has to be one that may be written: each write of the disk fails.
+    /// Opens an existing regular file for reading alone, and holds the lock on it, as `open` does. No file is created,
+    /// and the file need not be writable: each write of the disk fails.
     pub fn open_existing(rt: &HostRuntime, path: &str) -> Result<FileDisk, DiskFault> {
         match SystemFile::open_existing(rt, path) {
             Ok(file) => FileDisk::over(file),
@@ -78,14 +76,14 @@ impl FileDisk {
     }
 }
 
-/// Opens the regular file at a path for reads alone. What stands there is looked at before, since who opens a pipe waits for
-/// somebody who writes to it.
+/// Opens the regular file at a path for reading alone. What stands there is checked first, since opening a pipe would
+/// wait for a writer.
 pub fn open_regular<R: Files<File = File>>(rt: &R, path: &str) -> io::Result<File> {
     check_regular(rt, path)?;
     fs::open(rt, path)
 }
 
-/// Fails where no regular file stands at a path.
+/// Fails unless a regular file stands at the path.
 fn check_regular<R: Files>(rt: &R, path: &str) -> io::Result<()> {
     if rt.metadata(path)?.is_file() {
         Ok(())

@@ -1,6 +1,6 @@
 use cut_rings::Edge;
 
-/// One coming of an alert to a receiver: the alerted edge, and which of its copies.
+/// A delivery of an alert to a receiver: the alerted edge, and which of its copies.
 #[derive(Clone, Copy, Debug, PartialEq, Eq)]
 pub struct Delivery {
     /// The alerted edge.

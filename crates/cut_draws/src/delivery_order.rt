@@ -20,12 +20,12 @@ const RECEIVERS: u64 = MOST_NODES;
 /// How many edge numbers have places for each receiver.
 const EDGES: u64 = 65_536;
 
-/// The deliveries of one receiver in the order in which they come. It keeps its memory when it is
-/// filled again for another receiver. Contracts see the list of the deliveries.
+/// The deliveries of one receiver in the order in which they arrive. Its memory is used again for the next receiver.
+/// Contracts see a list of deliveries.
 #[derive(Debug, Drop)]
 pub struct DeliveryOrder {
     packed: Vec<u64>,
-    /// What deliveries whose packed keys tie are sorted in.
+    /// Working memory to sort deliveries whose packed keys tie.
     keyed: Vec<Keyed>,
 }
 
@@ -74,7 +74,7 @@ impl DeliveryOrder {
     }
 }
 
-/// What comes to a receiver: each copy of each of these edges of the first `k` rings.
+/// What is delivered to a receiver: each copy of each of these edges of the first `k` rings.
 #[derive(Clone, Copy)]
 struct Arrivals<'a> {
     receiver: u16,
@@ -104,9 +104,8 @@ impl Arrivals<'_> {
 }
 
 impl Draws {
-    /// All deliveries of the given edges at a receiver, in the order in which they come: ascending by key, edge number
-    /// and copy. That the order is random and apart for each receiver is the Rapid paper's, the keys are this project's
-    /// profile.
+    /// All deliveries of the given edges to a receiver, in the order in which they arrive: ascending by key, edge
+    /// number and copy. A random order for each receiver is the Rapid paper's; the keys are defined by this project.
     pub fn deliveries(
         &mut self,
         alloc: Global,
@@ -129,9 +128,9 @@ impl Draws {
         order.to_vec(alloc)
     }
 
-    /// Puts all deliveries of the given edges at a receiver into an order that may have been used
-    /// before, as `deliveries` gives them, in the memory that the order has. Fails only where memory runs
-    /// out, and the order is empty then.
+    /// Puts all deliveries of the given edges at a receiver into an order that may have been used before, as
+    /// `deliveries` gives them, in the memory that the order has. Fails only if memory runs out, and the order is empty
+    /// then.
     pub fn order_deliveries(
         &mut self,
         order: &mut DeliveryOrder,
@@ -162,7 +161,7 @@ impl Draws {
         filled
     }
 
-    /// The sorted deliveries, or an order of which nothing is known.
+    /// Sorts the deliveries into `order`. After an error its content is unspecified.
     fn fill(&mut self, order: &mut DeliveryOrder, arrivals: Arrivals) -> Result<(), AllocError>
         ensures order { OnOk result (IsDeliveryOrder self.old arrivals.entry.receiver arrivals.entry.k
             arrivals.entry.edges.now arrivals.entry.copies order.new) }

@@ -11,8 +11,8 @@ const BLOCK: u64 = 16;
 /// How many words the generator computes at once, from the start of a block.
 const COMPUTED: u64 = 64;
 
-/// The draws of one trial. Contracts see the key and the stream that the words come from; where the
-/// generator stands is forgotten, since a draw depends on its place alone.
+/// The draws of one trial. Contracts see the key and the stream of the words. The generator's position is not seen,
+/// since a draw depends only on its place.
 #[derive(Debug, Drop)]
 pub struct Draws {
     words: ChaCha8Rng,
@@ -67,9 +67,8 @@ impl Draws {
     }
 }
 
-/// Takes a generator from one place to another, and returns the end of the words that it has computed
-/// then. To such words it goes by steps. `end`, and what is returned for it, are a hint for speed: the
-/// generator stands at `place` whatever they are, so they change no key.
+/// Moves a generator to `place`, and returns the end of the words that it has computed then. Words that it has computed
+/// are skipped step by step. `end` and the returned value are hints for speed alone and change no key.
 #[inline(never)]
 fn seek(words: &mut ChaCha8Rng, here: u64, end: u64, place: u64) -> u64
     requires here { words.old.word_pos ≡ here }
@@ -84,7 +83,7 @@ fn seek(words: &mut ChaCha8Rng, here: u64, end: u64, place: u64) -> u64
     place / BLOCK * BLOCK + COMPUTED
 }
 
-/// Takes a generator past some words.
+/// Skips some words of a generator.
 #[inline]
 fn skip(words: &mut ChaCha8Rng, count: u64)
     requires { words.old.word_pos + count < 2 ^ 68 }

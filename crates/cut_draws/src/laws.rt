@@ -18,8 +18,7 @@ ghost use Rattle.cut_draws.specs.Laws.{
   LeastImageIsTheFirst,
 };
 
-/// Distinct edges have an order in which their deliveries come, and each delivery stands in it at the number of those
-/// that come before it.
+/// The deliveries of distinct edges have an order, in which each stands at the number of deliveries before it.
 pub fn distinct_edges_have_an_order()
     ensures order { DistinctEdgesHaveAnOrder }
     ensures ranks { DeliveriesStandAtTheirRanks }
@@ -32,8 +31,8 @@ pub fn deliveries_are_copies_of_edges()
     ensures counted { DeliveriesAreCountedByCopies }
 {}
 
-/// After some deliveries a receiver has heard of exactly those edges whose first copy was among them: of none before
-/// the first delivery, of all after the last, and what it has heard of stays so.
+/// After some deliveries a receiver knows of exactly those edges whose first copy was among them: of none before the
+/// first delivery, and of all after the last. It forgets none.
 pub fn edges_come_at_their_first_time()
     ensures time { EdgesComeAtTheirFirstTime }
     ensures none { NoneIsHeardOfAtFirst }
@@ -41,8 +40,8 @@ pub fn edges_come_at_their_first_time()
     ensures all { AllAreHeardOfInTheEnd }
 {}
 
-/// Where the high bits of two deliveries' keys differ they decide which comes first: the deliveries of images up to a
-/// number come before all others, and after them a receiver has heard of the edges whose least image is at most that
+/// If the high bits of two deliveries' keys differ, they decide which comes first. So the deliveries with images up to
+/// a number come before all others, and after them a receiver knows of the edges whose least image is at most that
 /// number.
 pub fn lesser_images_come_before()
     ensures before { LesserImagesComeBefore }

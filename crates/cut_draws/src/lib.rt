@@ -1,8 +1,8 @@
 //! Draws: the pseudo-random keys of a trial, and the orders that they give.
 //!
-//! All randomness of a study is the key stream of ChaCha with 8 rounds (the block function of RFC
-//! 8439), with the plan's seed as key and the trial's number as stream. A draw is named by its place
-//! in that stream, so what one draw gives depends on no other. The places are this project's profile.
+//! All randomness of a study is the key stream of ChaCha with 8 rounds (the block function of RFC 8439), with the
+//! plan's seed as key and the trial's number as stream. A draw is named by its place in that stream, so it depends on
+//! no other draw. The places are defined by this project.
 #![tactic(auto)]
 
 mod delivery;

@@ -19,8 +19,8 @@ const RINGS: u64 = MOST_RINGS;
 /// How many copies there may be.
 const COPIES: u64 = MOST_COPIES;
 
-/// A delivery in the low 18 bits of a number, under the high 46 bits of its key. Numbers of 8 bytes
-/// are sorted fastest, and nothing has to be looked up for their deliveries.
+/// A delivery in the low 18 bits of a number, below the high 46 bits of its key. Numbers of 8 bytes are sorted fastest,
+/// and no table is needed to find their deliveries.
 #[inline(always)]
 pub(crate) fn packed(key: u64, delivery: Delivery) -> u64
     requires ring { delivery.edge.ring < 32 }
@@ -55,8 +55,7 @@ pub(crate) fn deliveries_in(alloc: Global, packed: &[u64]) -> Result<Vec<Deliver
     packed.iter().map(|x| delivery_in(*x)).collect(alloc)
 }
 
-/// Whether the part of each key that is packed is less than the next. Where such parts tie, the order
-/// is that of the whole keys.
+/// Whether the packed part of each key is less than the next. If it isn't, the whole keys decide the order.
 pub(crate) fn keys_rise(packed: &[u64]) -> bool
     ensures { IsTrue result → ArePackedRising packed.now }
 {

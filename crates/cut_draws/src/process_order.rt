@@ -7,9 +7,8 @@ use crate::Draws;
 use std::alloc::{AllocError, Global};
 use std::marker::Model;
 
-/// The processes of a trial in ascending order of key and number, by which roles are given (this
-/// project's profile). It keeps its memory when it is filled again for another trial. Contracts see
-/// the list of the processes.
+/// The processes of a trial in ascending order of key and number, by which roles are assigned. Its memory is used again
+/// for the next trial. Contracts see a list of processes.
 #[derive(Debug, Drop)]
 pub struct ProcessOrder {
     keyed: Vec<(u64, u16)>,
@@ -70,9 +69,8 @@ impl Draws {
         order.to_vec(alloc)
     }
 
-    /// Puts the processes 0 to n - 1 into an order that may have been used before, as `process_order`
-    /// gives them, in the memory that the order has. Fails only where memory runs out, and the order is
-    /// empty then.
+    /// Puts the processes 0 to n - 1 into an order that may have been used before, as `process_order` gives them, in
+    /// the memory that the order has. Fails only if memory runs out, and the order is empty then.
     pub fn order_processes(&mut self, order: &mut ProcessOrder, n: u16) -> Result<(), AllocError>
         ensures order { OnOk result (IsProcessOrder self.old n order.new) }
         ensures err { OnErr result (order.new ≡ []) }

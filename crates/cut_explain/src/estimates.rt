@@ -150,7 +150,7 @@ pub fn estimate_study<C: CpuClock>(
 /// Pieces that were run.
 #[derive(Clone, Copy)]
 struct Samples {
-    /// How long a trial of each took, added up, but for those that are left out.
+    /// How long a trial of each took, added up, except for those that are left out.
     time_each: Duration,
     /// Over how many pieces.
     pieces: u32,

@@ -1,4 +1,4 @@
--- The program's one list of faults: number, name and exit status (this project's profile).
+-- The program's list of faults, as this project defines them: number, name and exit status.
 use Rattle.std.specs.Prelude.{ℕ, ◌==◌, ◌++◌, List, [], ◌∷◌, codes, Option}
 use Rattle.std.specs.List.{find}
 use Rattle.std.specs.Option.{option_map_or}
@@ -14,7 +14,7 @@ use Rattle.cut_faults.specs.declared.code.FaultCode.TheVariants.{Checkpoint, Wri
 use Rattle.cut_faults.specs.declared.code.FaultCode.TheVariants.{BadKind, TooLong, Truncated, Read, TooManyRequests}
 use Rattle.cut_faults.specs.declared.code.FaultCode.TheVariants.{BadLength, Disagrees, NotVersion1}
 
--- what stands of a fault: its number, its name, and the status of a command that it ended
+-- a row of the list: the fault's number, its name, and the exit status of a command that ended with it
 pub record FaultRow : Type 0 where
   pub number : ℕ
   pub name : List ℕ
@@ -23,7 +23,7 @@ pub record FaultRow : Type 0 where
 abbrev pub row : ℕ → List ℕ → ℕ → FaultRow
 row number name status = record { number = number; name = name; status = status }
 
--- the list. A command ends with 3 where a plan was refused, with 5 where memory ran out, and with 4 at any other fault.
+-- the list. A command ends with 3 where a plan was refused, with 5 if memory ran out, and with 4 at any other fault.
 -- Two faults, of a call and of a running study, both say that memory ran out
 abbrev pub row_of : FaultCode → FaultRow
 row_of Memory = row 0 (codes "Memory") 5
@@ -91,11 +91,11 @@ all_codes = Memory ∷ NotJson ∷ NotObject ∷ UnknownField ∷ MissingField �
 abbrev pub code_numbered : ℕ → Option FaultCode
 code_numbered n = find (λ code. number_of code == n) all_codes
 
--- the name of the fault with a number, `Unknown` where there is none
+-- the name of the fault with a number, `Unknown` if there is none
 abbrev pub name_numbered : ℕ → List ℕ
 name_numbered n = option_map_or name_of (code_numbered n) (codes "Unknown")
 
--- the status of the fault with a number, 4 where there is none
+-- the exit status of the fault with a number, 4 if there is none
 abbrev pub status_numbered : ℕ → ℕ
 status_numbered n = option_map_or status_of (code_numbered n) 4
 

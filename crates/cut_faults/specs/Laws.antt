@@ -4,7 +4,7 @@ use Rattle.cut_faults.specs.declared.code.FaultCode.{FaultCode}
 use Rattle.cut_faults.specs.Codes.{number_of, code_numbered}
 use Rattle.cut_faults.specs.Failures.{one_more, HasRisen}
 
--- a fault is the one that its number names
+-- a fault's number names that fault
 abbrev pub NumbersName : Type 0
 NumbersName = (code : FaultCode) → code_numbered (number_of code) ≡ Some code
 

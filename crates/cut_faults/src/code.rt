@@ -4,26 +4,25 @@ ghost use Rattle.cut_faults.specs.Codes.{status_numbered};
 
 use std::fmt;
 
-/// A fault of the program: the program's one list of them. Each has a number, a name and the exit
-/// status of a command that ends with it. The numbers are this project's profile; they also stand for
-/// faults in a server's replies.
+/// The faults of the program, in one list. Each has a number, a name and the exit status of a command that ends with
+/// it. The numbers are defined by this project; a server's replies carry them, too.
 #[derive(Clone, Copy, Debug, PartialEq, Eq)]
 pub enum FaultCode {
-    /// A growth of memory was refused.
+    /// Memory ran out.
     Memory,
-    /// The text is no JSON that the reader accepts.
+    /// The text is not JSON.
     NotJson,
-    /// The JSON value is no object.
+    /// The JSON value is not an object.
     NotObject,
-    /// The object has a field that no plan has.
+    /// The object has an unknown field.
     UnknownField,
     /// The object lacks a field.
     MissingField,
-    /// A field's value is of another kind than the field's.
+    /// A field's value has the wrong kind.
     WrongKind,
     /// A field's value is out of its range, or an empty list.
     OutOfRange,
-    /// A field's list does not rise strictly.
+    /// A field's list is not strictly ascending.
     NotRising,
     /// No combination of the plan's lists has l <= h <= k.
     NoCell,
@@ -43,7 +42,7 @@ pub enum FaultCode {
     Stranger,
     /// A trial of the result is held already.
     Overlap,
-    /// A slip is no piece, overlaps an earlier one, or has impossible totals.
+    /// A slip is not of a piece of the plan, overlaps an earlier slip, or has impossible totals.
     BadSlip,
     /// A trial of the cell is not held yet.
     NotDone,
@@ -73,13 +72,13 @@ pub enum FaultCode {
     Checkpoint,
     /// A write failed.
     Write,
-    /// A growth of memory, or a thread, was refused to a running study.
+    /// A running study got no more memory, or no thread.
     WorkMemory,
     /// Two counts of the same work differ.
     AuditMismatch,
     /// The study was stopped.
     Stopped,
-    /// A message is of no kind.
+    /// A message has an unknown kind.
     BadKind,
     /// A message has more than 65,536 bytes.
     TooLong,
@@ -87,17 +86,17 @@ pub enum FaultCode {
     Truncated,
     /// A read failed.
     Read,
-    /// A session had as many requests as it may.
+    /// A session has used up its requests.
     TooManyRequests,
     /// A message's length is wrong for its kind.
     BadLength,
     /// A slip's numbers are not those that its trials give.
     Disagrees,
-    /// The plan to be upgraded is no plan of version 1.
+    /// The plan to be upgraded is not of version 1.
     NotVersion1,
 }
 
-/// What stands of a fault: its number, its name, and the status of a command that it ended.
+/// A row of the list of faults: the number, the name, and the exit status of a command that ended with the fault.
 #[derive(Clone, Copy)]
 struct FaultRow {
     number: u16,
@@ -120,8 +119,8 @@ impl FaultRow {
 }
 
 impl FaultCode {
-    /// The fault's row of the list. A command ends with 3 where a plan was refused, with 5 where memory ran out, and with 4
-    /// at any other fault.
+    /// The fault's row of the list. A command ends with 3 where a plan was refused, with 5 if memory ran out, and with
+    /// 4 at any other fault.
     fn row(self) -> FaultRow
         ensures number { result.number ≡ number_of self }
         ensures name { result.name.now ≡ name_of self }
@@ -182,7 +181,7 @@ impl FaultCode {
         self.row().number
     }
 
-    /// The fault's name, as it is printed: at most 16 bytes.
+    /// The fault's name as it is printed, at most 16 bytes.
     pub fn name(self) -> &'static str
         ensures name { result.now ≡ name_of self }
         ensures short { length result.now ≤ 16 }
@@ -190,7 +189,7 @@ impl FaultCode {
         self.row().name
     }
 
-    /// The status with which a command ends that this fault ended.
+    /// The exit status of a command that ended with this fault.
     pub fn status(self) -> u8
         ensures { result ≡ status_of self }
     {
@@ -206,7 +205,7 @@ impl FaultCode {
     }
 }
 
-/// The name of the fault with this number, `Unknown` where there is none.
+/// The name of the fault of this number, `Unknown` if there is none.
 pub fn name_of_number(number: u16) -> &'static str
     ensures { result.now ≡ name_numbered number }
 {
@@ -216,7 +215,7 @@ pub fn name_of_number(number: u16) -> &'static str
     }
 }
 
-/// The status with which a command ends that the fault with this number ended, 4 where there is none.
+/// The exit status of a command that ended with the fault of this number, 4 if there is none.
 pub fn status_of_number(number: u16) -> u8
     ensures { result ≡ status_numbered number }
 {

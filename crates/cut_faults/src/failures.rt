@@ -3,7 +3,7 @@ ghost use Rattle.cut_faults.specs.Failures.{one_more};
 
 use std::marker::Model;
 
-/// How many calls of a device failed. At 2^64 - 1 the count stays. Contracts see the number.
+/// The number of failed calls of a device. It stays at 2^64 - 1 once it is there. Contracts see the number.
 #[derive(Debug, Drop)]
 pub struct Failures {
     count: u64,

@@ -1,7 +1,7 @@
-//! The faults of the program, and the counts of the calls of a device that failed.
+//! The faults of the program, and counts of a device's failed calls.
 //!
-//! Each crate has a type of its own for what can go wrong in it. Each of its faults has a
-//! [`FaultCode`] here, so that numbers, names and exit statuses stand once.
+//! Each crate has a fault type of its own. Each of its faults has a [`FaultCode`] here, so that numbers, names and exit
+//! statuses are defined once.
 #![tactic(auto)]
 
 mod code;

@@ -1,4 +1,4 @@
-//! Looking into the JSON value of a plan: a value of another kind is as one that is missing.
+//! Access to the JSON value of a plan. A value of the wrong kind is treated as missing.
 ghost use Rattle.std.specs.Prelude.{◌≡◌, ◌<◌, length, slice_index, map, is_some, string_bytes};
 ghost use Rattle.std.specs.List.{list_all};
 ghost use Rattle.std.specs.BTreeMap.{keys as keys_of};
@@ -47,7 +47,7 @@ fn are_numbers(items: &[Value]) -> bool
     items.iter().all(|item| item.is_u64())
 }
 
-/// The items of an array, and none of anything else.
+/// The items of an array, none of any other value.
 fn elements(value: &Value) -> &[Value]
     ensures { map view result.now ≡ elements (view value.now) }
 {
@@ -57,7 +57,7 @@ fn elements(value: &Value) -> &[Value]
     }
 }
 
-/// The number in a value, 0 where it is of another kind.
+/// The number in a value, 0 if it has another kind.
 pub fn number_in(value: &Value) -> u64
     ensures { result ≡ number_in (view value.now) }
 {
@@ -92,7 +92,7 @@ pub fn item_number(items: &[Value], i: usize) -> u64
     number_in(&items[i])
 }
 
-/// The truth value in a field, false where it is of another kind.
+/// The truth value in a field, false if it has another kind.
 pub fn truth_at(value: &Value, field: Field) -> bool
     ensures { result ≡ truth_in (member_at (view value.now) field) }
 {
@@ -112,8 +112,7 @@ pub fn text_at(value: &Value, field: Field) -> &str
         .unwrap_or("")
 }
 
-/// The version by whose fields an object is checked: 2 where its version is the whole number 2, and
-/// else 1.
+/// The version by whose fields an object is checked: 2 if its `version` is the whole number 2, else 1.
 pub fn version_in(value: &Value) -> Version
     ensures { result ≡ version_in (view value.now) }
 {

@@ -1,7 +1,7 @@
 //! The fields of a study plan's JSON object: which each version has, and what is found in them.
 //!
-//! Nothing here says which values a field may have; that is for `cut_plan`, whose plans are made of
-//! objects that have exactly the fields of their version.
+//! Which values a field may have is defined in `cut_plan`, whose plans are read from objects that have exactly the
+//! fields of their version.
 #![tactic(auto)]
 
 mod field;

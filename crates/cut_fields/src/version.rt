@@ -21,8 +21,7 @@ impl Version {
         }
     }
 
-    /// By which version's fields an object with this number is checked: version 2's where the number
-    /// is 2, else version 1's.
+    /// The version by whose fields an object with this number is checked: version 2 if the number is 2, else version 1.
     pub(crate) fn by_number(number: u64) -> Version
         ensures { result ≡ version_by number }
     {

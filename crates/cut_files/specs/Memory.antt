@@ -8,11 +8,11 @@ use Rattle.cut_files.specs.declared.memory_files.MemoryFiles.{MemoryFiles}
 use Rattle.cut_files.specs.Place.{Place, Absent, Refused, Open, Holds}
 
 module _ {D : Type 0} where
-  -- what is kept of a path, if anything is
+  -- what stands at a path in memory, if anything does
   abbrev pub kept_at : MemoryFiles D → List ℕ → Option (Kept D)
   kept_at files path = get_by_text files.files path
 
-  -- at each path but this one is kept what was kept
+  -- nothing changed at the other paths
   abbrev pub KeepsElsewhere : List ℕ → MemoryFiles D → MemoryFiles D → Type 0
   KeepsElsewhere path old new = (other : List ℕ) → other ≢ path → kept_at new other ≡ kept_at old other
 
@@ -21,7 +21,7 @@ module _ {D : Type 0} where
   disk_of (Some (kept.Held disk)) = Some disk
   disk_of other = None
 
-  -- what stands at a path, by what is kept of it and by the logs of disks
+  -- what is known of a path, by what stands there in memory and the logs of disks
   abbrev pub place_of : (D → DiskLog) → Option (Kept D) → Place
   place_of log None = Absent
   place_of log (Some kept.Refused) = Refused

@@ -1,4 +1,4 @@
--- What is known of each path, and what the calls that open, close and read files make of that.
+-- What is known of each path, and how the calls that open, close and read files change it.
 use Rattle.std.specs.Prelude.{◌≡◌, ◌≢◌, ℕ, List, [], take, Some, ⊤, if◌then◌else◌}
 use Rattle.std.specs.Str.{bytes_eq}
 use Rattle.cut_disks.specs.Log.{DiskLog, Knows}
@@ -8,8 +8,8 @@ use Rattle.cut_files.specs.declared.files.Mode.TheVariants.{Existing, Create}
 use Rattle.cut_files.specs.declared.files.OpenFault.{OpenFault}
 use Rattle.cut_files.specs.declared.files.OpenFault.TheVariants.{Memory, Disk}
 
--- what is known of a path: nothing; that nothing stands there; that what stands there does not open, as a folder; that
--- the file there is open; or that a file stands there which is not open, with the log that its disk will have
+-- what is known of a path: nothing; that nothing stands there; that what stands there can't be opened, like a folder;
+-- that the file there is open; or that a file stands there that is not open, and the log of its disk
 pub data Place : Type 0 where
   Unknown : Place
   Absent : Place
@@ -17,12 +17,12 @@ pub data Place : Type 0 where
   Open : Place
   Holds : (log : DiskLog) → Place
 
--- the log of a file that was just made: it is empty, and no call of it failed
+-- the log of a new file: it is empty, and no call of it failed
 abbrev pub new_file : DiskLog
 new_file = record { state = Some (fresh []); failed = 0 }
 
--- what stands at a path opens as a disk with this log. A file that is there has the log that it had. One is made where
--- nothing is, but only by `Create`. What does not open, and what is open already, is never opened
+-- what stands at a path opens as a disk with this log. An existing file has the log that it had. A file is created
+-- where nothing is, but only by `Create`. What can't be opened, or is open already, is never opened
 abbrev pub OpensAs : Mode → DiskLog → Place → Type 0
 OpensAs mode disk Unknown = ⊤
 OpensAs Existing disk Absent = ⊥
@@ -44,7 +44,7 @@ while_open path places other = if bytes_eq other path then opened (places other)
 abbrev pub IsOpened : Mode → DiskLog → Place → Place → Type 0
 IsOpened mode disk old new = OpensAs mode disk old × (new ≡ opened old)
 
--- what stood at a path that was not opened: where memory ran out, anything. Else it is not known, does not open, or is
+-- what stood at a path that was not opened: anything if memory ran out. Else it is not known, can't be opened or is
 -- open already; or nothing stood there, and the file was to exist
 abbrev pub MayNotOpen : Mode → OpenFault → Place → Type 0
 MayNotOpen mode Memory place = ⊤
@@ -60,18 +60,18 @@ abbrev pub closed : DiskLog → Place → Place
 closed disk Unknown = Unknown
 closed disk place = Holds disk
 
--- a disk can be given back to a path that is open, or of which nothing is known
+-- a disk can be given back to a path that is open or unknown
 abbrev pub IsOpen : Place → Type 0
 IsOpen Unknown = ⊤
 IsOpen Open = ⊤
 IsOpen place = ⊥
 
--- at each path but this one there is what there was
+-- nothing changed at the other paths
 abbrev pub StaysElsewhere : List ℕ → (List ℕ → Place) → (List ℕ → Place) → Type 0
 StaysElsewhere path old new = (other : List ℕ) → other ≢ path → new other ≡ old other
 
--- bytes that were read at a path: they are a part of those of the file, where these are known. Of an open file nothing is
--- known, and where there is no file, none are read
+-- bytes that were read at a path: a part of the file's bytes, if these are known. Nothing is known of an open file, and
+-- none are read if there is no file
 abbrev pub IsPartOf : (List ℕ → List ℕ) → List ℕ → Place → Type 0
 IsPartOf part bytes Unknown = ⊤
 IsPartOf part bytes Absent = ⊥
@@ -87,7 +87,7 @@ IsContent bytes place = IsPartOf (λ all. all) bytes place
 abbrev pub IsStart : ℕ → List ℕ → Place → Type 0
 IsStart limit bytes place = IsPartOf (take limit) bytes place
 
--- what stands at a path that was not read: where memory ran out, anything. Else no file that is closed
+-- what stands at a path that was not read: anything if memory ran out. Else not a file that is closed
 abbrev pub MayNotRead : OpenFault → Place → Type 0
 MayNotRead Memory place = ⊤
 MayNotRead Disk Unknown = ⊤

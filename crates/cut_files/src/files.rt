@@ -9,19 +9,19 @@ use thiserror::Error;
 /// What a file is opened for.
 #[derive(Clone, Copy, Debug, PartialEq, Eq)]
 pub enum Mode {
-    /// To be read. It has to be there, and nothing is made where it is not.
+    /// For reading. The file has to exist, and none is created.
     Existing,
-    /// To be read and written. An empty file is made where nothing is.
+    /// For reading and writing. An empty file is created if nothing is there.
     Create,
 }
 
 /// Why a file was not opened, or not read.
 #[derive(Clone, Copy, Debug, PartialEq, Eq, Error)]
 pub enum OpenFault {
-    /// A growth of memory was refused.
+    /// Memory ran out.
     #[error("memory ran out as a file was opened")]
     Memory,
-    /// The file is not there, is no regular file, may not be opened, is open already, or was not read.
+    /// The file does not exist, is not a regular file, may not be opened, is open already, or was not read.
     #[error("a file was not opened or not read")]
     Disk,
 }
@@ -39,23 +39,23 @@ impl From<AllocError> for OpenFault {
 
 /// What opens files by their paths, and closes them.
 ///
-/// Contracts see what stands at each path, where a path is the list of its bytes. A call changes what stands at its own
-/// path alone. Two texts that lead to one file are two paths.
+/// Contracts see what stands at each path; a path is the list of its bytes. A call changes only what stands at its own
+/// path. Two texts that lead to the same file are two paths.
 ///
-/// A file is opened as a disk, which the caller owns. While it is open, no other call opens it. A disk that is dropped, and
-/// not given back by `close`, leaves its path open, of which nothing is known from then on.
+/// A file is opened as a disk, which the caller owns. While it is open, no other call opens it. If its disk is dropped
+/// without `close`, the path stays open, and nothing more is known of the file.
 pub trait Files {
-    /// A file that is open.
+    /// The disk of an open file.
     type Disk: Disk + Drop + Send;
 
     /// What stands at each path.
     ghost log: { Self → List ℕ → Place };
 
-    /// Opens the file at a path, or makes an empty one where nothing is and the mode is `Create`.
+    /// Opens the file at a path. With `Create` an empty file is created if nothing is there.
     ///
     /// # Errors
-    /// `Memory` where memory runs out. `Disk` where the file is open already, where what stands there does not open, and
-    /// where nothing is there and the mode is `Existing`. What stood there is not changed then.
+    /// `Memory` if memory runs out. `Disk` if the file is open already, if what stands there can't be opened, and if
+    /// nothing is there and the mode is `Existing`. What stands there is not changed then.
     fn open(&mut self, path: &str, mode: Mode) -> Result<Self::Disk, OpenFault>
         ensures opened { IfOk result
             (λ disk. IsOpened mode (Self.Disk.log disk) (log self.old path.now) (log self.new path.now)) }
@@ -72,7 +72,7 @@ pub trait Files {
     /// The bytes of the file at a path, all of them. It is not locked, and may be open.
     ///
     /// # Errors
-    /// `Memory` where memory runs out. `Disk` where no file is there, or one that is not read.
+    /// `Memory` if memory runs out. `Disk` if no file is there, or it can't be read.
     fn read(&self, alloc: Global, path: &str) -> Result<Vec<u8>, OpenFault>
         ensures content { IfOk result (λ bytes. IsContent bytes.items (log self.now path.now)) }
         ensures refused { IfErr result (λ fault. MayNotRead fault (log self.now path.now)) };

@@ -2,8 +2,8 @@
 
 ghost use Rattle.cut_files.specs.Laws.{StaysEverywhere};
 
-/// Where nothing is changed elsewhere, and at its own path there is what there was, nothing is changed at any path: so
-/// after a file is opened, only read, and given back.
+/// If nothing is changed elsewhere, and at the call's own path there is what there was, then nothing is changed at any
+/// path: for example after a file is opened, only read, and closed.
 pub fn places_stay_everywhere()
     ensures { StaysEverywhere }
 {}

@@ -1,7 +1,7 @@
-//! What opens files: a trait that says what stands at each path before a call and after it.
+//! Opening files: a trait that says what stands at each path before a call and after it.
 //!
-//! [`SystemFiles`] are the files of the system, of which nothing is known. [`MemoryFiles`] are files in memory, of which
-//! everything is.
+//! [`SystemFiles`] are the files of the system, of which nothing is known. [`MemoryFiles`] are files in memory, of
+//! which everything is known.
 #![tactic(auto)]
 
 mod files;

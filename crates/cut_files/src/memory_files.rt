@@ -11,19 +11,18 @@ use std::alloc::{AllocError, Global};
 use std::collections::BTreeMap;
 use std::mem;
 
-/// What is kept of a path at which something stands.
+/// What stands at a path.
 #[derive(Drop)]
 pub enum Kept<D> {
-    /// What stands there does not open.
+    /// Something that can't be opened.
     Refused,
-    /// The file is open.
+    /// A file that is open.
     Open,
-    /// The file is not open, and this is its disk.
+    /// A file that is not open, with its disk.
     Held(D),
 }
 
-/// Files in memory, to try out what a program does with files. Each is a disk that was put there, or was made as `open`
-/// made the file.
+/// Files in memory, to try out what a program does with files. Each is a disk that `put` put there or `open` created.
 #[derive(Drop)]
 pub struct MemoryFiles<D = MemoryDisk> {
     alloc: Global,
@@ -31,7 +30,7 @@ pub struct MemoryFiles<D = MemoryDisk> {
 }
 
 impl<D: InMemory + Drop> MemoryFiles<D> {
-    /// Files, of which there are none.
+    /// No files.
     pub fn new(alloc: Global) -> MemoryFiles<D>
         ensures { (path : List ℕ) → kept_at result path ≡ None }
     {
@@ -41,8 +40,7 @@ impl<D: InMemory + Drop> MemoryFiles<D> {
         }
     }
 
-    /// Puts a file with this disk at a path, in place of what stood there. Fails only where memory runs out, and then
-    /// nothing is changed.
+    /// Puts a file with this disk at a path, in place of what stood there. If memory runs out, nothing is changed.
     pub fn put(&mut self, path: &str, disk: D) -> Result<(), AllocError>
         ensures put { OnOk result (kept_at self.new path.now ≡ Some (Held disk)) }
         ensures stays { OnErr result (kept_at self.new path.now ≡ kept_at self.old path.now) }
@@ -51,8 +49,8 @@ impl<D: InMemory + Drop> MemoryFiles<D> {
         self.keep(path, Kept::Held(disk))
     }
 
-    /// Puts something at a path that does not open, in place of what stood there. Fails only where memory runs out, and
-    /// then nothing is changed.
+    /// Puts something at a path that can't be opened, in place of what stood there. If memory runs out, nothing is
+    /// changed.
     pub fn refuse(&mut self, path: &str) -> Result<(), AllocError>
         ensures refused { OnOk result (kept_at self.new path.now ≡ Some Refused) }
         ensures stays { OnErr result (kept_at self.new path.now ≡ kept_at self.old path.now) }
@@ -61,7 +59,7 @@ impl<D: InMemory + Drop> MemoryFiles<D> {
         self.keep(path, Kept::Refused)
     }
 
-    /// The disk of the file at a path, where there is one that is not open.
+    /// The disk of the file at a path, if there is one that is not open.
     pub fn disk(&self, path: &str) -> Option<&D>
         ensures { option_copied result ≡ disk_of (kept_at self.now path.now) }
     {
@@ -71,7 +69,7 @@ impl<D: InMemory + Drop> MemoryFiles<D> {
         }
     }
 
-    /// Keeps this of a path, in place of what was kept, or changes nothing where memory runs out.
+    /// Sets what stands at a path. If memory runs out, nothing is changed.
     fn keep(&mut self, path: &str, kept: Kept<D>) -> Result<(), AllocError>
         ensures kept { OnOk result (kept_at self.new path.now ≡ Some kept) }
         ensures stays { OnErr result (kept_at self.new path.now ≡ kept_at self.old path.now) }
@@ -82,7 +80,7 @@ impl<D: InMemory + Drop> MemoryFiles<D> {
         Ok(())
     }
 
-    /// Makes an empty file at a path, and opens it. Where memory runs out nothing is changed.
+    /// Creates an empty file at a path, and opens it. If memory runs out, nothing is changed.
     fn make(&mut self, path: &str) -> Result<D, OpenFault>
         ensures made { IfOk result (λ disk. D.log disk ≡ new_file) }
         ensures open { OnOk result (kept_at self.new path.now ≡ Some Open) }
@@ -96,7 +94,7 @@ impl<D: InMemory + Drop> MemoryFiles<D> {
     }
 }
 
-/// Takes the disk out of what is kept of a path, which is open then.
+/// Takes the disk of a file that is not open, which is open from then on.
 fn take_out<D: Drop>(kept: &mut Kept<D>) -> Result<D, OpenFault>
     ensures { TakesOut result kept.old kept.new }
 {

@@ -8,12 +8,12 @@ use std::alloc::Global;
 use std::fs::File;
 use std::io::{self, ErrorKind, Read};
 
-/// The files of the system. Of them nothing is known: what another program does with a file is not said, and no clause
-/// says what the system does with a call.
+/// The files of the system. Nothing is known of them: other programs may change them, and no clause says what the
+/// system does with a call.
 ///
 /// An open file is a [`FileDisk`], which holds the lock on it. `open` is `FileDisk::open`, or `FileDisk::open_existing`
-/// for `Mode::Existing`; the writes of such a disk fail. A file that is not opened is a fault of the disk, whatever the
-/// cause, and an opening with `Mode::Create` that fails may leave a new, empty file.
+/// for `Mode::Existing`, with a disk whose writes fail. If a file can't be opened, the fault is `Disk`, whatever the
+/// cause. A failed opening with `Mode::Create` may leave a new, empty file.
 #[derive(Clone, Copy)]
 pub struct SystemFiles<'a> {
     host: &'a HostRuntime,
@@ -63,7 +63,7 @@ impl<'a> Files for SystemFiles<'a> {
     }
 }
 
-/// Why a file was not read: that memory ran out is no fault of the disk.
+/// Why a file was not read: `Memory` if memory ran out, else `Disk`.
 fn fault_of_file(error: &io::Error) -> OpenFault
     ensures { result ≡ of_kind (error_kind error.now) }
 {
@@ -73,8 +73,8 @@ fn fault_of_file(error: &io::Error) -> OpenFault
     }
 }
 
-/// Reads a regular file up to its end. Where a study appends to the file meanwhile, the last bytes may be those of a
-/// slip that is not yet kept.
+/// Reads a regular file up to its end. If a study appends to the file meanwhile, the last bytes may be those of a slip
+/// that is not yet kept.
 fn read_regular(host: &HostRuntime, alloc: Global, path: &str) -> io::Result<Vec<u8>> {
     let mut file = regular_file(host, path)?;
     let mut bytes = Vec::new(alloc);
@@ -82,7 +82,8 @@ fn read_regular(host: &HostRuntime, alloc: Global, path: &str) -> io::Result<Vec
     Ok(bytes)
 }
 
-/// Reads a regular file up to its end, or to a limit. No contract of the system says that no more is read, so no more is kept.
+/// Reads a regular file up to its end or a limit. No contract of the system bounds what is read, so the rest is cut
+/// off.
 fn read_regular_start(
     host: &HostRuntime,
     alloc: Global,
@@ -98,7 +99,7 @@ fn read_regular_start(
     Ok(bytes)
 }
 
-/// Opens a regular file to be read. That it is one is also looked at once it is open.
+/// Opens a regular file for reading. That it is regular is checked again once it is open.
 fn regular_file(host: &HostRuntime, path: &str) -> io::Result<File> {
     let file = open_regular(host, path)?;
     if !file.metadata()?.is_file() {

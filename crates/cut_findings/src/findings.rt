@@ -125,7 +125,7 @@ fn rule_in(value: &Value, field: Field) -> FieldRule {
     )
 }
 
-/// What is wrong with a value by a rule, but for the order of a list.
+/// What is wrong with a value by a rule, except for the order of a list.
 fn finding_in<'a>(rule: FieldRule, value: &'a Value) -> Option<Finding<'a>> {
     let is_right = match rule {
         FieldRule::Number { least, most } => value
@@ -146,7 +146,7 @@ fn finding_in<'a>(rule: FieldRule, value: &'a Value) -> Option<Finding<'a>> {
     }
 }
 
-/// What is wrong with a list of numbers from `least` on and below `end`, but for its order.
+/// What is wrong with a list of numbers from `least` on and below `end`, except for its order.
 fn finding_in_list(value: &Value, least: u64, end: u64) -> Option<Finding<'_>> {
     let items = match value.as_array() {
         Some(items) => items.as_slice(),

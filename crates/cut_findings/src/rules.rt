@@ -54,9 +54,9 @@ pub enum FieldRule {
         least: u64,
         most: u64,
     },
-    /// A strictly rising list of numbers of rings.
+    /// A strictly ascending list of numbers of rings.
     Rings,
-    /// A strictly rising list of numbers of failed processes, each below the number of processes, where that is known.
+    /// A strictly ascending list of numbers of failed processes, each below the number of processes, if that is known.
     Failed {
         nodes: Option<u64>,
     },
@@ -72,7 +72,7 @@ pub enum FieldRule {
 }
 
 impl FieldRule {
-    /// The rule of a field, in a plan with this number of processes, where it is known.
+    /// The rule of a field, in a plan with this number of processes, if it is known.
     pub fn of_field(field: Field, nodes: Option<u64>) -> FieldRule {
         match field {
             Field::Copies => FieldRule::Number {

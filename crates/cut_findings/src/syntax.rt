@@ -187,7 +187,7 @@ fn ends_value(byte: u8) -> bool {
     matches!(byte, b'"' | b'}' | b']' | b'0'..=b'9' | b'a'..=b'z')
 }
 
-/// The last byte before a place that is not blank, 0 where there is none.
+/// The last byte before a place that is not blank, 0 if there is none.
 fn byte_before(text: &[u8], at: usize) -> u8 {
     let before = text.get(..at).unwrap_or(&[]);
     before

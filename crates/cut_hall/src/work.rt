@@ -183,7 +183,7 @@ impl<D: Disk + Drop, M: CallLedger, K: CallLedger> Hall<D, M, K> {
         draw_in(&slot, &self.board, &mut pass.seat, study)
     }
 
-    /// Runs a piece, and once more where memory ran out.
+    /// Runs a piece, and once more if memory ran out.
     fn compute<R: Wait>(&self, rt: &R, alloc: Global, drawn: Drawn) -> Option<PieceResult>
         requires { drawn.study < self.now.slots }
         ensures { IfSome result (λ r. r.piece ≡ drawn.piece) }
@@ -198,8 +198,8 @@ impl<D: Disk + Drop, M: CallLedger, K: CallLedger> Hall<D, M, K> {
         twice(&mut attempt)
     }
 
-    /// The input of a study, if it has been made or there is memory to make it. Others who need it wait meanwhile,
-    /// and where memory runs out the next of them tries again.
+    /// The input of a study, if it has been made or there is memory to make it. Others who need it wait meanwhile, and
+    /// if memory runs out the next of them tries again.
     fn input<R: Wait>(&self, rt: &R, alloc: Global, study: u32) -> Option<&StudyInput>
         requires { study < self.now.slots }
     {
@@ -243,10 +243,9 @@ impl<D: Disk + Drop, M: CallLedger, K: CallLedger> Hall<D, M, K> {
         handed
     }
 
-    /// Gives a piece of a study up, by its number from 0 in the study's division, as a worker does where memory for
-    /// it is refused: whoever asks for the line of its cell gets that fault, where the cell is not done. Returns
-    /// whether it is noted, which is a call of the pass: not where there is no study or no such piece, or it was given
-    /// up before.
+    /// Gives a piece of a study up, by its number from 0 in the study's division, as a worker does where memory for it
+    /// is refused: whoever asks for the line of its cell gets that fault, where the cell is not done. Returns whether
+    /// it is noted, which is a call of the pass: not if there is no study or no such piece, or it was given up before.
     pub fn give_up<R: Wait>(&self, rt: &R, pass: &mut Pass<M>, study: u32, piece: u64) -> bool
         requires own { pass.old.hall ≡ self.now.id }
         requires slot { study < self.now.slots }

@@ -14,7 +14,7 @@ use std::test::Fail;
 /// A hall whose disks may fail.
 pub(crate) type Stormy<M, K> = Hall<FaultyDisk, M, K>;
 
-/// A shelf whose disks each fail at the call of this number, or never where that is 0.
+/// A shelf whose disks each fail at the call of this number, or never if that is 0.
 #[derive(Clone, Copy)]
 pub(crate) struct Brittle {
     pub fail_at: u64,

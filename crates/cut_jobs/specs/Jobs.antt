@@ -76,7 +76,7 @@ PrintsRefused paths (Some place) old new =
     (before : List (List ℕ)) × (path : List ℕ) × (after : List (List ℕ)) × (paths ≡ before ++ path ∷ after)
     × (place ≡ length before + 1) × IsSent (file_line place path) old new
 
--- the file that a join names there, where that is asked for, is the one that its end says is refused
+-- the file that a join names there, if that is asked for, is the one that its end says is refused
 abbrev pub TellsRefused : Job → (List ℕ → Place) → (List ℕ → Place) → WireLog → WireLog → Result ⊤ CliFault → WireLog
     → WireLog → Type 0
 TellsRefused (Join to from true plan) before after old new ended errors_old errors_new =
@@ -84,8 +84,8 @@ TellsRefused (Join to from true plan) before after old new ended errors_old erro
     × PrintsRefused (map (λ s. s.now) from.items) refused errors_old errors_new)
 TellsRefused job before after old new ended errors_old errors_new = ⊤
 
--- what a job that ends so prints on the errors before that is reported: progress, or which file is refused, where that
--- is asked for
+-- what a job that ends so prints on the errors before that is reported: progress, or which file is refused, if that is
+-- asked for
 abbrev pub PrintsOn : Job → Result ⊤ CliFault → WireLog → WireLog → Type 0
 PrintsOn (Run piece workers file true plan) ended old new = HasPrinted old new
 PrintsOn (Share index shares file piece workers true plan) ended old new = HasPrinted old new

@@ -29,7 +29,7 @@ pub struct System<'a, R> {
 }
 
 /// Does a job over files and a wire. The files of checkpoints are opened before anything is read. Progress, and which
-/// file is refused, is printed on the errors where it is asked for.
+/// file is refused, is printed on the errors if it is asked for.
 pub(crate) fn answer<F, W, E, R>(
     files: &mut F,
     system: &System<'_, R>,

@@ -26,7 +26,7 @@ pub(crate) struct JoinJob<'a> {
 }
 
 impl JoinJob<'_> {
-    /// Joins the files, and says on the errors which old one is refused, where that is asked for.
+    /// Joins the files, and says on the errors which old one is refused, if that is asked for.
     #[tactic(auto, using(crate::proofs::RefusedFiles::file_within))]
     pub(crate) fn run<F, W, E>(
         &self,

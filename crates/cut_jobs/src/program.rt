@@ -18,13 +18,13 @@ use std::time::Clock;
 /// The line of a word that is not UTF-8.
 const UNREADABLE_LINE: &[u8] = b"error: a word of the command line is not UTF-8\n";
 
-/// The program: it does what the words ask for, the first of which is its own name, and returns the
-/// status with which it ends.
+/// The program: it does what the words ask for, the first of which is its own name, and returns the status with which
+/// it ends.
 ///
-/// A command reads its plan from `wire`, or from a file that is named, and writes its answer to `wire`; its fault is one
-/// line on `errors`, from which nothing is read, after the lines of progress, or that of a refused file, where these are
-/// asked for. Help goes to `wire`, what is wrong with the words to `errors`, both as clap writes them. The files of plans and
-/// checkpoints are those of `files`, but for those of a server, which are the system's.
+/// A command reads its plan from `wire`, or from a file that is named, and writes its answer to `wire`; its fault is
+/// one line on `errors`, from which nothing is read, after the lines of progress, or that of a refused file, where
+/// these are asked for. Help goes to `wire`, what is wrong with the words to `errors`, both as clap writes them. The
+/// files of plans and checkpoints are those of `files`, except for those of a server, which are the system's.
 pub fn run_words<F, R, S, W, E>(
     files: &mut F,
     system: &System<'_, R>,

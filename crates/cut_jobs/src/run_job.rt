@@ -55,7 +55,7 @@ impl WorkersJob<'_> {
 }
 
 impl RunJob<'_> {
-    /// Runs the job, and prints its progress on the errors where it is asked for.
+    /// Runs the job, and prints its progress on the errors if it is asked for.
     pub(crate) fn run<F, W, E, R>(
         &self,
         files: &mut F,

@@ -9,7 +9,7 @@ use thiserror::Error;
 /// Why slips were not joined. Printed, it is its number, its name and the slip's number.
 #[derive(Debug, Drop, PartialEq, Eq, Error)]
 pub enum JoinFault {
-    /// A growth of memory was refused.
+    /// Memory ran out.
     Memory,
     /// The slip of this number, from 1, is no piece, overlaps an earlier one, or has impossible totals.
     BadSlip(u64),

@@ -15,8 +15,8 @@ use cut_ledger::Slip;
 use cut_plan::Plan;
 use std::alloc::Global;
 
-/// Appends the slips of a plan to its journal, joined: one for each greatest run of adjacent trials of a cell that
-/// some slip has, in ascending order, with the sums of the slips in it. It answers how many it wrote, which are all.
+/// Appends the slips of a plan to its journal, joined: one for each greatest run of adjacent trials of a cell that some
+/// slip has, in ascending order, with the sums of the slips in it. Returns how many it wrote, which are all.
 ///
 /// It is refused before any write where a slip is one that no ledger begins with, after those before it, and then where
 /// the journal is of another plan. Memory runs out only before the first write. After that a broken journal ends it, or

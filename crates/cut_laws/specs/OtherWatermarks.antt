@@ -37,7 +37,7 @@ waited deliveries x = x.settled + x.silent * deliveries
 
 -- at each trial, receivers by the second plan wait at least as long as by the first
 pub record WaitsLonger (sooner later : Values) : Type 0 where
-  -- no silence ends, no conflict is new, and who names a process that is no target still does so, or is silent
+  -- no silence ends, no conflict is new, and who names a process that is not a target still does so, or is silent
   pub trials : (t : ℕ) → AreMoreCautious (outcome sooner t) (outcome later t)
   -- so in the sums over any trials: of a piece, of a cell, of all
   pub sums : (ts : List ℕ) → AreMoreCautious (sum_of sooner ts) (sum_of later ts)

@@ -38,7 +38,7 @@ TooFewAlertsMakeAllConflicts =
     (v : Values) (t s : ℕ) → IsTrue (is_target (roles_at v t) s) → raised_about v t s < least_reports v t →
     IsAllConflicts (outcome v t)
 
--- and where each process that is no target has fewer, none of these is proposed
+-- and where each process that is not a target has fewer, none of these is proposed
 abbrev pub TooFewFalseAlertsLeaveNoExtra : Type 0
 TooFewFalseAlertsLeaveNoExtra =
     (v : Values) (t : ℕ) →

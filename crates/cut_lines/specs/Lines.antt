@@ -27,7 +27,7 @@ abbrev pub settled_column : Version → Totals → List ℕ
 settled_column One x = []
 settled_column Two x = x.settled ∷ []
 
--- conflicts in a million receivers, rounded down; 0 where there are no receivers
+-- conflicts in a million receivers, rounded down; 0 if there are no receivers
 abbrev pub ppm_of : Totals → ℕ
 ppm_of x = x.conflicts * 1000000 / x.receivers
 

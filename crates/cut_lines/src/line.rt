@@ -26,9 +26,9 @@ pub fn header(plan: &Plan) -> &'static [u8]
     }
 }
 
-/// The line of the plan's cell with this number, counted from 0, with a line feed: k, h, l and f of the
-/// cell, the number of its trials, their sums (`settled` where the plan is of version 2), and conflicts in
-/// a million receivers, rounded down (0 where there are no receivers). It has at most 294 bytes.
+/// The line of the plan's cell with this number, counted from 0, with a line feed: k, h, l and f of the cell, the
+/// number of its trials, their sums (`settled` where the plan is of version 2), and conflicts in a million receivers,
+/// rounded down (0 if there are no receivers). It has at most 294 bytes.
 pub fn cell_line(
     alloc: Global,
     plan: &Plan,

@@ -67,8 +67,8 @@ pub record AreUntouched (files : JoinFiles) : Type 0 where
   pub new : files.back ≡ files.disk
   pub each : (path : List ℕ) → files.left path ≡ files.found path
 
--- what is left of the files at the other ends: they are as before where no plan was read; and where memory ran out,
--- unless a plan was read and its slips were joined
+-- what is left of the files at the other ends: they are as before where no plan was read; and if memory ran out, unless
+-- a plan was read and its slips were joined
 abbrev pub LeavesOther : Option Place → JoinFiles → WireLog → WireLog → Result ⊤ CliFault → Type 0
 LeavesOther plan files old new (Err Read) = AreUntouched files
 LeavesOther plan files old new (Err (Plan refusal)) = AreUntouched files

@@ -19,7 +19,7 @@ use Rattle.cut_commands.specs.declared.fault.CliFault.TheVariants.{Memory, Journ
 
 -- ---- what files say
 
--- the slips that a file says for the plan: those that its bytes are read as, where these are known. What does not open
+-- the slips that a file says for the plan: those that its bytes are read as, if these are known. What does not open
 -- says none
 abbrev pub Holds : Place → Values → List Slip → Type 0
 Holds place.Unknown v slips = ⊤

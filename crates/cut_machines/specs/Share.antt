@@ -46,7 +46,7 @@ answer_at (Err fault) s v = []
 
 -- ---- the disk
 
--- bytes say these slips, or these and the doubtful one, where there is one
+-- bytes say these slips, or these and the doubtful one, if there is one
 abbrev pub SayUpTo : Values → List Slip → Option Slip → List ℕ → Type 0
 SayUpTo v slips None bytes = reading v bytes ≡ Ok slips
 SayUpTo v slips (Some slip) bytes = (reading v bytes ≡ Ok slips) ⊎ (reading v bytes ≡ Ok (slips ++ slip ∷ []))
@@ -78,9 +78,9 @@ pub record KeepsAll (s : Share) (v : Values) (disk back : DiskLog) : Type 0 wher
   pub whole : AreWhole s v slips added
 
 -- what is on the disk of a share whose plan was read, by how the command ends. All is kept at Ok and where a write
--- failed. Where memory ran out some slips of the share were added, and a trial of it is in none, or no slip was.
--- Where the disk failed some were added, and one more is doubtful. None was added where a slip is bad, where the
--- journal was not opened, and where memory ran out for its opening
+-- failed. If memory ran out, some slips of the share were added, and a trial of it is in none, or no slip was. Where
+-- the disk failed some were added, and one more is doubtful. None was added where a slip is bad, where the journal was
+-- not opened, and if memory ran out for its opening
 abbrev pub Keeps : Result ⊤ CliFault → Share → Values → DiskLog → DiskLog → Type 0
 Keeps (Ok done) s v disk back = KeepsAll s v disk back
 Keeps (Err (Write fault)) s v disk back = KeepsAll s v disk back
@@ -104,8 +104,8 @@ share_task ended s disk back = record {
   fails = λ v fault. Keeps (Err fault) s v disk back;
 }
 
--- the disk is untouched where a read failed or the text is no plan, and also where memory ran out, if the plan was
--- not read then
+-- the disk is untouched where a read failed or the text is no plan, and also if memory ran out, if the plan was not
+-- read then
 abbrev pub LeavesUnread : Option Place → CliFault → DiskLog → DiskLog → WireLog → WireLog → Type 0
 LeavesUnread plan Read disk back old new = back ≡ disk
 LeavesUnread plan (Plan refusal) disk back old new = back ≡ disk

@@ -34,17 +34,17 @@ pub struct ShareWork<'a, G> {
     pub ghost few: { (1 ≤ workers) × (workers ≤ 64) },
 }
 
-/// Reads a plan from a wire, runs the trials of a share that the file of the work lacks, keeps them there, and writes the
-/// line `share I of N: n of n`, where n is how many trials the share has. All of them are held then.
+/// Reads a plan from a wire, runs the trials of a share that the file of the work lacks, keeps them there, and writes
+/// the line `share I of N: n of n`, where n is how many trials the share has. All of them are held then.
 ///
-/// The file is opened before anything is read, and made where there is none. The file of a plan is read after that, where
-/// the wire would be read; where it is not read, the share's file is left as it was opened. The journal is opened once the
-/// plan is read:
-/// it holds one of the plan, or it is unclaimed, and then a journal is made. Where what stands at the path is known, the
-/// contract says which slips were found and which were added, at each end: at `Ok`, and where the write of the answer
-/// failed, exactly the trials of the share that were lacking; none at a fault of the opening or a slip that is bad; some
-/// where memory ran out or the disk failed. Whenever a crash comes, what it leaves is read as the slips that were found
-/// and some first ones of those that were added. WorkMemory comes where memory ran out once the journal was opened.
+/// The file is opened before anything is read, and made if there is none. The file of a plan is read after that, where
+/// the wire would be read; where it is not read, the share's file is left as it was opened. The journal is opened once
+/// the plan is read: it holds one of the plan, or it is unclaimed, and then a journal is made. Where what stands at the
+/// path is known, the contract says which slips were found and which were added, at each end: at `Ok`, and where the
+/// write of the answer failed, exactly the trials of the share that were lacking; none at a fault of the opening or a
+/// slip that is bad; some if memory ran out or the disk failed. Whenever a crash comes, what it leaves is read as the
+/// slips that were found and some first ones of those that were added. WorkMemory comes if memory ran out once the
+/// journal was opened.
 ///
 /// At most 65,537 bytes are read, and nothing is written at a fault other than that of a write. Checkpoint, and the
 /// fault Disk of the journal, come exactly where a call of the disk failed, or a file was not opened or not read.

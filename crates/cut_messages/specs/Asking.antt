@@ -90,7 +90,7 @@ ConcludesAnswer (Err ask.Read) stream messages rest old new =
 ConcludesAnswer (Err ask.PlanTooLong) stream messages rest old new = ⊥
 ConcludesAnswer (Err ask.Request) stream messages rest old new = ⊥
 
--- what the last read gave and no reader took: nothing, but where memory ran out
+-- what the last read gave and no reader took: nothing, but if memory ran out
 abbrev pub IsUnread : Result ⊤ AskFault → List ℕ → Type 0
 IsUnread (Err ask.Memory) last = length last ≤ READ_SIZE
 IsUnread result last = last ≡ []

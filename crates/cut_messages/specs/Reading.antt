@@ -32,8 +32,8 @@ pub record Reading : Type 0 where
 abbrev pub fresh : Side → Reading
 fresh side = record { side = side; held = []; fault = None }
 
--- a reader was fed this stream, in whatever pieces, and gave these messages: they are the stream's;
--- the fault is that after them; and where there is none, the bytes after them are held
+-- a reader was fed this stream, in whatever pieces, and gave these messages: they are the stream's; the fault is that
+-- after them; and if there is none, the bytes after them are held
 pub record HasReadFrames (r : Reading) (stream : List ℕ) (messages : List Message) : Type 0 where
   pub rest : List ℕ
   pub splits : Splits r.side stream messages rest

@@ -19,9 +19,9 @@ const MOST_READS: u64 = 1 << 32;
 
 /// Asks for the table of one plan over a wire, and writes its lines to an output as they come.
 ///
-/// It sends the plan and that nothing follows, and passes over replies that carry no line. Where
-/// the plan is too long, nothing is sent. At an error the output has the lines that came before it;
-/// where a write of the output failed, the first of their bytes.
+/// It sends the plan and the end of its requests, and skips replies that carry no line. If the plan is too long,
+/// nothing is sent. At an error the output has the lines that came before it; if a write of the output failed, some
+/// first bytes of these.
 pub fn ask<W: Wire, O: Wire>(
     alloc: Global,
     plan_text: &[u8],
@@ -59,7 +59,7 @@ pub fn ask<W: Wire, O: Wire>(
     Err(AskFault::Endless)
 }
 
-/// Sends a plan, and that no further request comes.
+/// Sends a plan and the end of the requests.
 fn send_request<W: Wire>(wire: &mut W, plan_text: &[u8]) -> Result<(), Sent>
     requires { length plan_text.now ≤ LONGEST_PAYLOAD }
     ensures { Requests result plan_text.now (W.log wire.old) (W.log wire.new) }
@@ -67,7 +67,7 @@ fn send_request<W: Wire>(wire: &mut W, plan_text: &[u8]) -> Result<(), Sent>
     send_both(&mut Line::new(wire), plan_text)
 }
 
-/// Sends the same over a line.
+/// Sends both, and counts the bytes.
 fn send_both<W: Wire>(line: &mut Line<'_, W>, plan_text: &[u8]) -> Result<(), Sent>
     requires { length plan_text.now ≤ LONGEST_PAYLOAD }
     ensures { Sends result (request plan_text.now) (sending W.log line.old) (sending W.log line.new) }

@@ -5,10 +5,10 @@ use cut_faults::{FaultCode, name_of_number};
 use std::fmt;
 use thiserror::Error;
 
-/// What stands in a stream where a message should. Printed, it is its number and its name.
+/// What is wrong with the bytes of a stream where a message should begin. It is printed as its number and its name.
 #[derive(Clone, Copy, Debug, PartialEq, Eq, Error)]
 pub enum StreamFault {
-    /// A message begins with a byte that is no kind of this side.
+    /// A message begins with a byte that is not a kind of this side.
     BadKind,
     /// A payload would have more than 65,536 bytes.
     TooLong,
@@ -42,12 +42,12 @@ impl fmt::Display for StreamFault {
     }
 }
 
-/// Why a stream may not end where it does. Printed, it is its number and its name.
+/// Why a stream may not end where it does. It is printed as its number and its name.
 #[derive(Clone, Copy, Debug, PartialEq, Eq, Error)]
 pub enum EndFault {
-    /// A fault stands in the stream.
+    /// The stream has a fault.
     Stream(StreamFault),
-    /// A message has begun, and is not whole.
+    /// A message has begun and is not complete.
     Truncated,
 }
 
@@ -76,11 +76,10 @@ impl fmt::Display for EndFault {
     }
 }
 
-/// Why a client has no whole table. Printed, it is its number and the name of the fault with that
-/// number.
+/// Why a client got no complete table. It is printed as its number and the name of the fault of that number.
 #[derive(Clone, Copy, Debug, PartialEq, Eq, Error)]
 pub enum AskFault {
-    /// A growth of memory was refused.
+    /// Memory ran out.
     Memory,
     /// The plan's text has more than 65,536 bytes.
     PlanTooLong,
@@ -94,7 +93,7 @@ pub enum AskFault {
     Endless,
     /// The answer ended before the table did.
     Truncated,
-    /// Something that is no reply stands in the answer.
+    /// The answer has something that is not a reply.
     Stream(StreamFault),
     /// The server reported the fault with this number.
     Reported(u16),

@@ -1,6 +1,6 @@
 use crate::{Message, StreamFault};
 
-/// What a reader says of a piece of a stream.
+/// What a reader found in a piece of a stream.
 #[derive(Debug, Drop)]
 pub struct Fed {
     /// The messages that the piece completed, in order.

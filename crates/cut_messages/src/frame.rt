@@ -9,10 +9,10 @@ use crate::Kind;
 use crate::prefix::HEAD;
 use cut_wires::{Framing, Line, Sent, Wire};
 
-/// How many bytes a frame has at most that is sent by one write, where the wire takes it whole.
+/// The most bytes of a frame that is handed to the wire by one write.
 const BUFFER: usize = 512;
 
-/// Sends a message over a line. Where it has at most 512 bytes, it is handed to the wire as a whole.
+/// Sends a message over a line. A message of at most 512 bytes is handed to the wire by one write.
 pub fn send_message<W: Wire>(line: &mut Line<'_, W>, kind: Kind, payload: &[u8]) -> Result<(), Sent>
     requires { length payload.now ≤ LONGEST_PAYLOAD }
     ensures { Sends result (frame kind payload.now) (sending W.log line.old) (sending W.log line.new) }
@@ -25,7 +25,7 @@ pub fn send_message<W: Wire>(line: &mut Line<'_, W>, kind: Kind, payload: &[u8])
     line.send(&buffer[..HEAD + payload.len()])
 }
 
-/// Sends the same by a write for what comes before the payload, and others for that.
+/// Sends the same by one write for what precedes the payload, and others for the payload.
 fn send_parts<W: Wire>(line: &mut Line<'_, W>, kind: Kind, payload: &[u8]) -> Result<(), Sent>
     requires { length payload.now ≤ LONGEST_PAYLOAD }
     ensures { Sends result (frame kind payload.now) (sending W.log line.old) (sending W.log line.new) }

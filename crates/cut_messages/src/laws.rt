@@ -2,8 +2,7 @@
 
 ghost use Rattle.cut_messages.specs.Laws.{ReadingsAgree, MessagesTakeRoom, FaultsStay};
 
-/// A stream has one reading: two lists of messages of it are one, and so is what comes after
-/// them.
+/// A stream has one reading: its messages and what comes after them are determined.
 pub fn readings_agree()
     ensures { ReadingsAgree }
 {}
@@ -14,7 +13,7 @@ pub fn messages_take_room()
     ensures { MessagesTakeRoom }
 {}
 
-/// A fault that stands in a stream stays there, and no message stands where it does.
+/// A fault in a stream stays there, and no message begins at its place.
 pub fn faults_stay()
     ensures { FaultsStay }
 {}

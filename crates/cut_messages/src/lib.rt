@@ -1,11 +1,11 @@
-//! Messages between a client and a server of studies: their frames, a reader of a stream of them, and a client
-//! that asks for one table.
+//! Messages between a client and a server of studies: their frames, a reader of a stream of them, and a client that
+//! asks for one table.
 //!
-//! A message is a [`Kind`] and a [`Payload`]. On a wire it is a frame: a byte for the kind, the
-//! payload's length in four bytes, high byte first, and the payload. A [`Reader`] takes a stream in
-//! whatever pieces it comes, gives the messages that are whole, and reports what stands where a
-//! message should: a byte that is no kind of that side, a length above 65,536, or one that is wrong
-//! for the kind, looked for in that order. [`laws`] say that a stream has one reading.
+//! A message is a [`Kind`] and a [`Payload`]. On a wire it is a frame: a byte for the kind, the payload's length in
+//! four bytes, high byte first, and the payload. A [`Reader`] takes a stream in pieces of any size, returns the
+//! complete messages, and reports what is wrong where a message should begin: a byte that is not a kind of that side, a
+//! length above 65,536, or a length that is wrong for the kind, in that order. [`laws`] say that a stream has one
+//! reading.
 //!
 //! [`send_message`] sends one message over a line, [`RowMessages`] frames the rows of a table, and [`ask`] sends a plan
 //! and writes the lines of the answer. What they say of the bytes on their wires holds where the wire's log has them;

@@ -2,7 +2,7 @@ ghost use Rattle.std.specs.Prelude.{◌≡◌};
 
 use std::marker::Model;
 
-/// The bytes that a message carries. Contracts see their list.
+/// The bytes that a message carries. Contracts see a list.
 #[derive(Debug, Drop)]
 pub struct Payload {
     bytes: Vec<u8>,

@@ -7,7 +7,7 @@ use crate::{Kind, Side, StreamFault};
 /// How many bytes stand before a payload.
 pub(crate) const HEAD: usize = 5;
 
-/// What some bytes of a stream begin with.
+/// What the next bytes of a stream are.
 #[derive(Clone, Copy)]
 pub(crate) enum Prefix {
     /// A message of this kind, with a payload of this many bytes.

@@ -8,7 +8,7 @@ use crate::{EndFault, Fed, Side, StreamFault};
 use std::alloc::{AllocError, Global};
 use std::marker::Model;
 
-/// A reader of a stream of messages, which is fed piece by piece.
+/// A reader of a stream of messages, which gets the stream piece by piece.
 #[derive(Debug, Drop)]
 pub struct Reader {
     side: Side,
@@ -56,10 +56,9 @@ impl Reader {
         }
     }
 
-    /// Reads the next piece of the stream: gives the messages that it completes, and the fault that
-    /// comes after them, if one does. After a fault each later piece gives that fault and no
-    /// message. What is held between two pieces are at most 65,540 bytes. Where memory runs out,
-    /// nothing of the piece is read.
+    /// Reads the next piece of the stream. Returns the messages that it completes, and the fault after them, if there
+    /// is one. After a fault each later piece returns that fault and no message. Between two pieces at most 65,540
+    /// bytes are held. If memory runs out, nothing of the piece is read.
     pub fn feed(&mut self, alloc: Global, piece: &[u8]) -> Result<Fed, AllocError>
         ensures reads { (stream : List ℕ) (messages : List Message) →
             HasReadFrames self.old stream messages → IfOk result
@@ -97,7 +96,7 @@ impl Reader {
         })
     }
 
-    /// Whether the stream may end here: not where a fault stands in it, and not inside a message.
+    /// Whether the stream may end here: not after a fault, and not inside a message.
     pub fn finish(&self) -> Result<(), EndFault>
         ensures { result ≡ end_of self.now.fault self.now.held }
     {

@@ -9,7 +9,7 @@ use crate::{AskFault, Kind, Message, Reader};
 use cut_wires::{Wire, send_all};
 use std::alloc::Global;
 
-/// Whether an answer is at its end.
+/// Whether an answer has ended.
 #[derive(Clone, Copy)]
 pub(crate) enum AnswerState {
     /// It has more to come.
@@ -43,7 +43,7 @@ pub(crate) fn take_piece<O: Wire>(
     }
 }
 
-/// Writes the lines of replies, up to the first that is a last one.
+/// Writes the lines of replies up to the last one.
 fn pass_all<O: Wire>(messages: &[Message], output: &mut O) -> Result<AnswerState, AskFault>
     ensures { Passes messages.now result (O.log output.old) (O.log output.new) }
 {

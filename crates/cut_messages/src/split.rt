@@ -6,7 +6,7 @@ use crate::prefix::{HEAD, Prefix, prefix_of};
 use crate::{Message, Payload, Side, StreamFault};
 use std::alloc::{AllocError, Global};
 
-/// Some bytes of a stream, read up to the first that are no whole message.
+/// Bytes of a stream, read up to the first that are not a complete message.
 #[derive(Drop)]
 pub(crate) struct Split {
     pub messages: Vec<Message>,

@@ -10,7 +10,7 @@ use thiserror::Error;
 /// slip's number.
 #[derive(Debug, Drop, PartialEq, Eq, Error)]
 pub enum MigrateFault {
-    /// A growth of memory was refused.
+    /// Memory ran out.
     Memory,
     /// The plan to be upgraded is no plan of version 1.
     NotVersion1,

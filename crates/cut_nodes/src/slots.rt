@@ -40,7 +40,7 @@ impl Slots {
     }
 }
 
-/// The slots of edges of the first `k` rings. Their blocks are added to the blocks, each where it is not the last then.
+/// The slots of edges of the first `k` rings. Each block is appended to the blocks unless it is the last one already.
 pub(crate) fn slots_among(
     alloc: Global,
     blocks: &mut Vec<u32>,
@@ -61,7 +61,8 @@ pub(crate) fn slots_among(
     Ok(slots)
 }
 
-/// Where the key of an edge of this number stands. Its block is added to the blocks where it is not the last of them.
+/// Where the key of an edge of this number stands. Its block is appended to the blocks unless it is the last one
+/// already.
 fn slot_of(blocks: &mut Vec<u32>, number: u16) -> Result<Slot, AllocError>
     requires { length blocks.old.items < 2 ^ 16 }
     ensures slot { IfOk result (λ slot. IsSlot blocks.new.items number slot) }
@@ -74,7 +75,7 @@ fn slot_of(blocks: &mut Vec<u32>, number: u16) -> Result<Slot, AllocError>
     })
 }
 
-/// Adds a block where it is not the last.
+/// Appends a block unless it is the last one already.
 fn reach(blocks: &mut Vec<u32>, block: u32) -> Result<(), AllocError>
     requires { block < 2 ^ 13 }
     ensures last { OnOk result (IsLast blocks.new.items block) }

@@ -20,7 +20,7 @@ same_members = pointwise ◌==◌
 abbrev pub votes_of : List (List ℕ) → List ℕ → ℕ
 votes_of cast members = count_by (λ c. same_members c members) cast
 
--- the largest number of proposals with equal members, 0 where there is none
+-- the largest number of proposals with equal members, 0 if there is none
 abbrev pub most_votes : List (List ℕ) → ℕ
 most_votes cast = fold max 0 (map (λ c. votes_of cast c) cast)
 

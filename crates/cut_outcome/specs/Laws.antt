@@ -105,8 +105,8 @@ NoneIsSilentWhereObserversSpeak =
 abbrev pub with_marks : Cell → ℕ → ℕ → Cell
 with_marks c h l = record { k = c.k; h = h; l = l; f = c.f }
 
--- a verdict, and that on a receiver which waits longer: no silence ends, no conflict is new, and who names
--- a process that is no target still does so, or is silent
+-- a verdict, and that on a receiver which waits longer: no silence ends, no conflict is new, and who names a process
+-- that is not a target still does so, or is silent
 pub record IsMoreCautious (verdict longer : Verdict) : Type 0 where
   pub silent : IsTrue verdict.silent → IsTrue longer.silent
   pub conflict : IsTrue longer.conflict → IsTrue verdict.conflict
@@ -159,7 +159,7 @@ PiecesHavePossibleTotals =
     (v : Values) (p : Piece) → IsTrue (is_piece v p) →
     ArePossible v (cell_at v p.first) p.count (sum_of v (trials_in p))
 
--- a plan and its upgrade have the same outcome at each trial, but for `settled`
+-- a plan and its upgrade have the same outcome at each trial, except for `settled`
 abbrev pub UpgradesKeepOutcomes : Type 0
 UpgradesKeepOutcomes =
     (v : Values) (t : ℕ) → IsPlan v → t < trial_count v →

@@ -21,7 +21,7 @@ pub record AreCounted (v : Values) (c : Cell) (trials : ℕ) (x : Totals) : Type
   pub receivers : x.receivers ≡ trials * (v.nodes - c.f)
   -- none of them is silent and a conflict
   pub conflicts : x.conflicts + x.silent ≤ x.receivers
-  -- nor silent and of a proposal with a process that is no target
+  -- nor silent and of a proposal with a process that is not a target
   pub extra : x.extra + x.silent ≤ x.receivers
   -- each has one vote at most
   pub votes : x.votes ≤ x.receivers

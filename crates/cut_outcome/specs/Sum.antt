@@ -28,7 +28,7 @@ plus a b = each_number (λ n. n a + n b)
 abbrev pub without_settled : Totals → Totals
 without_settled x = record x { settled = 0 }
 
--- no number is above m, but for `settled`: a receiver that counts once hears up to 2^18 deliveries
+-- no number is above m, except for `settled`: a receiver that counts once hears up to 2^18 deliveries
 pub record IsAtMost (m : ℕ) (x : Totals) : Type 0 where
   pub receivers : x.receivers ≤ m
   pub conflicts : x.conflicts ≤ m

@@ -1,8 +1,8 @@
 use crate::Piece;
 use std::sync::Wait;
 
-/// What the workers of a study call at each stage of their work. Nothing is claimed of what a gate does; a stage that it
-/// leaves out does nothing there.
+/// What the workers of a study call at each stage of their work. Contracts say nothing of what a gate does. By default
+/// a stage does nothing.
 pub trait Gate {
     /// Called between the draw of a piece and the work on it: the worker goes on when this returns.
     fn pass<R: Wait>(&self, _rt: &R, _piece: Piece) {}

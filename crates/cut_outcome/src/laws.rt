@@ -32,8 +32,8 @@ use cut_alerts::laws::as_many_deaf_draw_alike;
 use cut_detector::laws::{a_wider_gap_proposes_later, proposes_at_least_place, targets_alone};
 use cut_plan::{cells_are_the_combinations, upgrades_fail_alike};
 
-/// The fast round agrees: of at most n proposals, one for each process at most, two quorums have one
-/// in common, so no two different proposals can both be decided.
+/// The fast round agrees: with at most one proposal per process, two quorums have a proposal in common, so no two
+/// different proposals are both decided.
 pub fn quorums_agree()
     ensures { QuorumsAgree }
 {}
@@ -46,9 +46,9 @@ pub fn right_is_decided()
     ensures once { DecidedOnce }
 {}
 
-/// Only receivers that announce something have votes, so the votes and the silent receivers are at most
-/// all receivers; and a trial is decided only by a quorum of votes, so there are at least a quorum for
-/// each trial that is decided. This holds of each trial, and of the sums over any trials.
+/// Only receivers that announce something have votes, so the votes and the silent receivers together are at most all
+/// receivers. A trial is decided only by a quorum, so there is at least a quorum of votes for each decided trial. This
+/// holds of each trial, and of the sums over any trials.
 pub fn decided_by_votes()
     ensures trials { TrialsAreByVotes }
     ensures sums { SumsAreByVotes }

@@ -10,7 +10,7 @@ pub struct Totals {
     pub conflicts: u64,
     /// How many announced nothing.
     pub silent: u64,
-    /// How many announced a proposal with a process that is no target.
+    /// How many announced a proposal with a process that is not a target.
     pub extra: u64,
     /// The largest number of receivers with equal proposals, of each trial.
     pub votes: u64,
@@ -24,7 +24,7 @@ pub struct Totals {
 }
 
 impl Totals {
-    /// The sums over no trial: no receivers, no votes, and no trials that were decided.
+    /// The sums over no trials.
     pub const ZERO: Totals = Totals {
         receivers: 0,
         conflicts: 0,
@@ -36,9 +36,8 @@ impl Totals {
         settled: 0,
     };
 
-    /// The sums over two lists of trials, added up number by number: receivers to receivers, votes to
-    /// votes, and trials that were decided to such trials. Each number of either is at most 2^43, and
-    /// `settled` 2^61, so that none of the result is more than 64 bits hold.
+    /// The sums over two lists of trials, added up number by number. Each number is at most 2^43, and `settled` 2^61,
+    /// so that no sum overflows.
     pub fn plus(self, other: Totals) -> Totals
         requires self_fits { IsAtMost (2 ^ 43) self }
         requires other_fits { IsAtMost (2 ^ 43) other }

@@ -5,6 +5,6 @@ pub struct Verdict {
     pub silent: bool,
     /// It announced a proposal that lacks a target (a conflict in the Rapid paper's study).
     pub conflict: bool,
-    /// It announced a proposal with a process that is no target.
+    /// It announced a proposal with a process that is not a target.
     pub extra: bool,
 }

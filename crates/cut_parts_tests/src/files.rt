@@ -6,7 +6,7 @@ use std::alloc::Global;
 use std::fs;
 use std::test::Fail;
 
-/// Writes two bytes to the file at a path, which is made where there is none, and gives it back.
+/// Writes two bytes to the file at a path, which is made if there is none, and gives it back.
 fn write<F: Files>(files: &mut F, path: &str) -> Result<bool, OpenFault> {
     let mut disk = files.open(path, Mode::Create)?;
     let is_empty = disk.length() == Ok(0);

@@ -37,8 +37,8 @@ use Rattle.cut_fields.specs.Fields.{text_in}
 abbrev pub is_in_scale : List ℕ → Bool
 is_in_scale xs = nat_lt 0 (length xs) && list_all (is_within 1 MOST_RINGS) xs
 
--- whether what a field says is in the field's range; an empty list is not, nor a text that is none of the words or
--- not 64 hexadecimal digits. The last row is that of the deaf, the liars and the links
+-- whether the value of a field is in the field's range. An empty list is not, nor is a text that is none of the words
+-- or not 64 hexadecimal digits. The last row is for `deaf`, `liars` and `links`
 abbrev pub in_range : (Field → Data) → Field → Bool
 in_range at field.Copies = is_within 1 MOST_COPIES (number_in (at field.Copies))
 in_range at field.Dead = is_some (dead_of (text_in (at field.Dead)))
@@ -57,11 +57,11 @@ in_range at field = is_within 0 MOST_NODES (number_in (at field))
 
 -- ---- the order of the checks
 
--- the fault where the test fails, else what comes after
+-- the fault if the test fails, else what comes after
 abbrev pub wanted : {A : Type 0} → Bool → Refusal → Result A Refusal → Result A Refusal
 wanted holds fault later = if holds then later else Err fault
 
--- the fault of the first field of a version of which the test fails, else what comes after
+-- the fault of the first field of a version that fails the test, else what comes after
 abbrev pub each : {A : Type 0} → Version → (Field → Bool) → (Field → Refusal) → Result A Refusal → Result A Refusal
 each version holds fault later =
     option_map_or (λ field. Err (fault field)) (find (λ field. not (holds field)) (fields_of version)) later

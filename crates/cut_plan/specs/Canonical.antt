@@ -1,4 +1,4 @@
--- The one text of a plan: compact JSON, its keys in byte order, the seed in lower-case hexadecimal digits.
+-- The canonical text of a plan: compact JSON, its keys in byte order, the seed in lower-case hexadecimal digits.
 use Rattle.std.specs.Prelude.{ℕ, List, [], ◌∷◌}
 use Rattle.hex.specs.Hex.{encode_lower}
 use Rattle.serde_json.specs.Data.{Data, null, boolean, number, string, object, unsigned}
@@ -16,13 +16,13 @@ use Rattle.cut_fields.specs.Versions.{version_number}
 use Rattle.cut_plan.specs.Failing.{version_of}
 use Rattle.cut_fields.specs.Fields.{name_of, fields_of, numbers_data}
 
--- how targets fail, as JSON, in the field by which a version says it: null where the plan is of the other version
+-- how targets fail, as JSON, in the field in which a version says it: null if the plan is of the other version
 abbrev pub failing_data : Version → Failing → Data
 failing_data One (Alike faults) = string (faults_word faults)
 failing_data Two (Mixed deaf) = number (unsigned deaf)
 failing_data version failing = null
 
--- what a plan's values say in each field, as JSON; a field that plans of their version lack says null
+-- the value of each field, as JSON; a field that the version lacks has null
 abbrev pub said : Values → Field → Data
 said v field.Copies = number (unsigned v.copies)
 said v field.Dead = string (dead_word v.dead)

@@ -11,12 +11,12 @@ abbrev pub version_of : Failing → Version
 version_of (Alike faults) = One
 version_of (Mixed deaf) = Two
 
--- the one way in which all targets fail, where it is one
+-- the way in which all targets fail, if it is the same for all
 abbrev pub faults_in : Failing → Option Faults
 faults_in (Alike faults) = Some faults
 faults_in (Mixed deaf) = None
 
--- how many targets are deaf, where it is said as a number
+-- how many targets are deaf, if the plan says a number
 abbrev pub deaf_in : Failing → Option ℕ
 deaf_in (Alike faults) = None
 deaf_in (Mixed deaf) = Some deaf

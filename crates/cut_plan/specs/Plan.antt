@@ -17,7 +17,7 @@ is_rising [] = true
 is_rising (x ∷ []) = true
 is_rising (x ∷ y ∷ rest) = nat_lt x y && is_rising (y ∷ rest)
 
--- a list of ring numbers or watermarks: not empty, strictly rising, each 1 to 32
+-- a list of ring numbers or watermarks: not empty, strictly ascending, each 1 to 32
 pub record IsScale (xs : List ℕ) : Type 0 where
   pub some : 0 < length xs
   pub range : IsTrue (list_all (is_within 1 MOST_RINGS) xs)

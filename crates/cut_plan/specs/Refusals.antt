@@ -1,4 +1,4 @@
--- What is reported of a text that is no accepted plan.
+-- What is reported of a text that is not an accepted plan.
 use Rattle.std.specs.Prelude.{◌≡◌, ℕ, List, Option, Some, None, Result, Err, ⊤}
 use Rattle.std.specs.Option.{option_map_or}
 use Rattle.cut_faults.specs.declared.code.FaultCode.{FaultCode}

@@ -6,7 +6,7 @@ use Rattle.cut_plan.specs.declared.failing.Failing.TheVariants.{Alike, Mixed}
 use Rattle.cut_plan.specs.Values.{Values}
 use Rattle.cut_plan.specs.Cells.{largest}
 
--- how many of f targets are deaf, where this is said of how targets fail: a number of deaf targets is at most f
+-- how many of f targets are deaf: at most f
 abbrev pub deaf_among : Failing → ℕ → ℕ
 deaf_among (Alike Crash) f = 0
 deaf_among (Alike Deaf) f = f

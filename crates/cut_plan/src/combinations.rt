@@ -21,7 +21,7 @@ pub(crate) fn count_triples(k: &[u8], h: &[u8], l: &[u8]) -> u32
     count
 }
 
-/// How many pairs of h and l there are under one k.
+/// How many pairs of h and l go with one k.
 #[tactic(auto, unfolding(crate::specs::inside::Triples::pairs_under))]
 fn count_pairs(k: u8, h: &[u8], l: &[u8]) -> u32
     requires few_h { length h.now ≤ 32 }
@@ -36,7 +36,7 @@ fn count_pairs(k: u8, h: &[u8], l: &[u8]) -> u32
     count
 }
 
-/// How many l there are under one k and h.
+/// How many values of l go with one k and h.
 fn count_lows(k: u8, h: u8, l: &[u8]) -> u32
     requires few_l { length l.now ≤ 32 }
     ensures value { result ≡ lows_under l.now k h }
@@ -85,7 +85,7 @@ fn add_lows(cells: &mut Vec<Cell>, k: u8, h: u8, l: &[u8], f: &[u16]) -> Result<
     Ok(())
 }
 
-/// Adds the cells of one k, h and l, one for each f, where the thresholds are in order.
+/// Adds the cells of one k, h and l, one for each f, if l ≤ h ≤ k.
 fn add_cells(cells: &mut Vec<Cell>, k: u8, h: u8, l: u8, f: &[u16]) -> Result<(), AllocError>
     ensures { OnOk result (cells.new.items ≡ cells.old.items ++ cells_at f.now k h l) }
 {

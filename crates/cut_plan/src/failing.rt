@@ -8,12 +8,12 @@ use crate::{Faults, Version};
 use serde_json::Value;
 use std::alloc::{AllocError, Global};
 
-/// What a plan says of how its targets fail.
+/// How the targets of a plan fail.
 #[derive(Clone, Copy, Debug, PartialEq, Eq)]
 pub enum Failing {
-    /// All in this one way.
+    /// All fail in this way.
     Alike(Faults),
-    /// This many of a cell's targets are deaf, or all where it has fewer; the others have crashed.
+    /// This many of a cell's targets are deaf, or all if it has fewer; the others have crashed.
     Mixed(u16),
 }
 
@@ -28,7 +28,7 @@ impl Failing {
         }
     }
 
-    /// The one way in which all fail, where it is one.
+    /// The way in which all targets fail, if it is the same for all.
     pub(crate) fn faults(self) -> Option<Faults>
         ensures { result ≡ faults_in self }
     {
@@ -38,7 +38,7 @@ impl Failing {
         }
     }
 
-    /// How many are deaf, where it is said as a number.
+    /// How many are deaf, if the plan says a number.
     pub(crate) fn deaf(self) -> Option<u16>
         ensures { result ≡ deaf_in self }
     {
@@ -48,7 +48,7 @@ impl Failing {
         }
     }
 
-    /// The word that names the one way, as JSON, and null where there is none.
+    /// The word for the way in which all targets fail, as JSON, null if there is none.
     pub(crate) fn faults_value(self, alloc: Global) -> Result<Value, AllocError>
         ensures { IfOk result (λ value. view value ≡ failing_data One self) }
     {
@@ -58,7 +58,7 @@ impl Failing {
         }
     }
 
-    /// How many are deaf, as JSON, and null where it is not said.
+    /// How many are deaf, as JSON, null if the plan says no number.
     pub(crate) fn deaf_value(self) -> Value
         ensures { view result ≡ failing_data Two self }
     {

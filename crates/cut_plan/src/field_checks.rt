@@ -38,8 +38,8 @@ pub(crate) fn check(value: &Value) -> Result<(), Refusal>
     check_by(version_in(value), value)
 }
 
-/// Checks each field of a version in turn: that the object has exactly these, and then the kind of
-/// each, the range of each, and that each list rises.
+/// Checks the fields of a version in turn: that the object has exactly these, then the kind of each, the range of each,
+/// and that each list is ascending.
 #[tactic(auto, unfolding(crate::specs::inside::Accepted::checks_by))]
 fn check_by(version: Version, value: &Value) -> Result<(), Refusal>
     ensures { result ≡ checks_by version (view value.now) }
@@ -73,7 +73,7 @@ fn first_missing(version: Version, value: &Value) -> Option<Field>
         .find(|field| !is_present(value, *field))
 }
 
-/// The first field of a version whose value is of another kind.
+/// The first field of a version whose value has the wrong kind.
 fn first_of_wrong_kind(version: Version, value: &Value) -> Option<Field>
     ensures { result ≡ find (λ field. not (is_of_kind (view value.now) field)) (fields_of version) }
 {
@@ -95,7 +95,7 @@ fn first_out_of_range(version: Version, value: &Value) -> Option<Field>
         .find(|field| !is_in_range(value, *field))
 }
 
-/// The first field of a version whose list does not rise.
+/// The first field of a version whose list is not ascending.
 fn first_not_rising(version: Version, value: &Value) -> Option<Field>
     ensures { result ≡ find (λ field. not (rises_at (view value.now) field)) (fields_of version) }
 {
@@ -126,7 +126,7 @@ fn is_in_range(value: &Value, field: Field) -> bool
     }
 }
 
-/// Whether a field's list rises strictly.
+/// Whether a field's list is strictly ascending.
 fn rises_at(value: &Value, field: Field) -> bool
     ensures { result ≡ rises_at (view value.now) field }
 {
@@ -140,7 +140,7 @@ fn is_within(low: u64, high: u64, number: u64) -> bool
     low <= number && number <= high
 }
 
-/// Whether there is some number, and each is below `bound`.
+/// Whether the list is not empty and each number is below `bound`.
 fn are_below(items: &[Value], bound: u64) -> bool
     ensures { result ≡ (has_some (item_numbers items.now) && list_all (λ x. nat_lt x bound) (item_numbers items.now)) }
 {
@@ -154,7 +154,7 @@ fn all_below(items: &[Value], bound: u64) -> bool
     items.iter().all(|item| number_in(item) < bound)
 }
 
-/// Whether there is some number, and each is 1 to 32.
+/// Whether the list is not empty and each number is 1 to 32.
 fn are_in_scale(items: &[Value]) -> bool
     ensures { result ≡ is_in_scale (item_numbers items.now) }
 {
@@ -189,7 +189,7 @@ pub(crate) fn dead_at(value: &Value) -> Dead
     Dead::of_word(text_at(value, Field::Dead)).unwrap_or(Dead::Silent)
 }
 
-/// What an object whose fields were checked says of how targets fail.
+/// How targets fail by an object whose fields were checked.
 pub(crate) fn failing_at(value: &Value) -> Failing
     requires { IsChecked (view value.now) }
     ensures { result ≡ failing_by (version_in (view value.now)) (member_at (view value.now)) }

@@ -11,8 +11,8 @@ ghost use Rattle.cut_plan.specs.Targets.{deaf_of, upgraded};
 
 use crate::Plan;
 
-/// What any accepted text says is a plan: each value in its range, each list rising, some cell, and
-/// no more of anything than allowed.
+/// What an accepted text says is a plan: each value is in its range, each list is ascending, there is a cell, and no
+/// limit is exceeded.
 pub fn accepted_texts_give_plans()
     ensures { (text : List ℕ) (v : Values) → plan_of text ≡ Ok v → IsPlan v }
 {}
@@ -29,14 +29,13 @@ pub fn cells_are_the_combinations()
     ensures { (v : Values) → IsPlan v → AreCombinations v }
 {}
 
-/// The upgrade of a plan is a plan, and for each number of failed processes that the plan studies as
-/// many of them are deaf.
+/// The upgrade of a plan is a plan. For each number of failed processes in the plan, equally many of them are deaf.
 pub fn upgrades_fail_alike()
     ensures plan { (v : Values) → IsPlan v → IsPlan (upgraded v) }
     ensures deaf { (v : Values) (f : ℕ) → Contains v.f f → deaf_of (upgraded v) f ≡ deaf_of v f }
 {}
 
-/// Each value of the type is an accepted plan, and the numbers of its trials are below 2^32. It does nothing.
+/// Each value of the type is an accepted plan, and the numbers of its trials are below 2^32.
 pub fn plans_are_accepted(plan: &Plan)
     ensures accepted { IsPlan plan.now }
     ensures few { trial_count plan.now < 2 ^ 32 }

@@ -1,7 +1,7 @@
 //! Study plans: what a study is to simulate, read from JSON and checked once.
 //!
-//! A [`Plan`] that exists is an accepted one: every range, every rising list and every limit on its
-//! cells is known of it by its type, so that no layer above tests or requires them again.
+//! Every [`Plan`] is an accepted one: its type guarantees every range, every ascending list and every limit, so that no
+//! layer above tests or requires them again.
 #![tactic(auto)]
 
 mod cell;

@@ -1,6 +1,6 @@
-//! How much of anything a plan has at most.
+//! The limits of a plan.
 
-/// The most bytes of a plan's text: as many as a message of a server carries.
+/// The longest text of a plan in bytes, which a server's message carries, too.
 pub const LONGEST_TEXT: usize = 65_536;
 
 /// The most processes, and so the most that are deaf, liars or at cut links: the draws of a trial number a receiver,

@@ -59,9 +59,8 @@ impl Model for Plan {
 }
 
 impl Plan {
-    /// Reads a plan from a JSON text of at most 65,536 bytes. A refusal is the first fault of the text,
-    /// in the order of the checks. A text that is too long, or that is no UTF-8, is refused without
-    /// memory.
+    /// Reads a plan from a JSON text of at most 65,536 bytes. A refusal is the first fault of the text, in the order of
+    /// the checks. Refusing a text that is too long or not UTF-8 takes no memory.
     #[tactic(auto, unfolding(crate::specs::Accepted::plan_of))]
     pub fn from_json(alloc: Global, text: &[u8]) -> Result<Plan, PlanFault>
         ensures ok { IfOk result (λ p. plan_of text.now ≡ Ok p) }
@@ -129,7 +128,7 @@ impl Plan {
         self.dead
     }
 
-    /// The numbers of failed processes, strictly rising, each below the number of processes.
+    /// The numbers of failed processes, strictly ascending, each below the number of processes.
     pub fn f(&self) -> &[u16]
         ensures value { result.now ≡ self.now.f }
         ensures plan { IsPlan self.now }
@@ -145,8 +144,8 @@ impl Plan {
         self.failing.faults()
     }
 
-    /// How many of a cell's targets are deaf, or all where it has fewer: a number that a plan of
-    /// version 2 has, at most 2048.
+    /// How many of a cell's targets are deaf, or all if it has fewer. Only a plan of version 2 says this number, at
+    /// most 2048.
     pub fn deaf(&self) -> Option<u16>
         ensures value { result ≡ deaf_in self.now.failing }
         ensures plan { IsPlan self.now }
@@ -154,9 +153,8 @@ impl Plan {
         self.failing.deaf()
     }
 
-    /// How many of `f` targets are deaf, the others having crashed. In a plan of version 1: none where
-    /// targets crash, and all where they are deaf. In a plan of version 2: as many as it says, or all
-    /// where they are fewer.
+    /// How many of `f` targets are deaf; the others have crashed. In a plan of version 1: none if targets crash, and
+    /// all if they are deaf. In a plan of version 2: as many as it says, or all if there are fewer.
     pub fn deaf_of(&self, f: u16) -> u16
         ensures value { result ≡ deaf_of self.now f }
         ensures most { result ≤ f }
@@ -169,7 +167,7 @@ impl Plan {
         }
     }
 
-    /// The high watermarks, strictly rising, each 1 to 32.
+    /// The high watermarks, strictly ascending, each 1 to 32.
     pub fn h(&self) -> &[u8]
         ensures value { result.now ≡ self.now.h }
         ensures plan { IsPlan self.now }
@@ -185,7 +183,7 @@ impl Plan {
         self.implicit
     }
 
-    /// The numbers of rings, strictly rising, each 1 to 32.
+    /// The numbers of rings, strictly ascending, each 1 to 32.
     pub fn k(&self) -> &[u8]
         ensures value { result.now ≡ self.now.k }
         ensures plan { IsPlan self.now }
@@ -193,7 +191,7 @@ impl Plan {
         self.k.as_slice()
     }
 
-    /// The low watermarks, strictly rising, each 1 to 32.
+    /// The low watermarks, strictly ascending, each 1 to 32.
     pub fn l(&self) -> &[u8]
         ensures value { result.now ≡ self.now.l }
         ensures plan { IsPlan self.now }
@@ -307,9 +305,9 @@ impl Plan {
         })
     }
 
-    /// The plan of version 2 whose targets fail in the same way, so that every trial has the same outcome but for the
-    /// number that version 1 does not have: none of them is deaf where they crash, and as many as the greatest number
-    /// of failed processes where they are deaf. Of a plan of version 2 it is a copy.
+    /// The plan of version 2 whose targets fail in the same way. Every trial has the same outcome, except for the
+    /// number that version 1 lacks. If targets crash, none is deaf; if they are deaf, as many are as the greatest
+    /// number of failed processes. A plan of version 2 is copied.
     pub fn upgrade(&self, alloc: Global) -> Result<Plan, AllocError>
         ensures value { IfOk result (λ p. p ≡ upgraded self.now) }
     {
@@ -318,8 +316,8 @@ impl Plan {
         Ok(plan)
     }
 
-    /// The number of deaf targets by which those of each of the plan's cells fail as they do: in a plan
-    /// of version 1, how many are deaf where most processes fail.
+    /// The number of deaf targets by which the targets of every cell fail as they do. In a plan of version 1 it is how
+    /// many are deaf in the cell with the most failed processes.
     fn most_deaf(&self) -> u16
         ensures value { result ≡ most_deaf self.now.failing self.now.f }
         ensures most { result ≤ MOST_NODES }
@@ -338,7 +336,7 @@ impl Plan {
         largest(self.f.as_slice())
     }
 
-    /// Whether two plans say the same, that is, whether their canonical texts are equal.
+    /// Whether two plans are the same: whether their canonical texts are equal.
     pub fn same(&self, other: &Plan) -> bool
         ensures values { IsTrue result ↔ (self.now ≡ other.now) }
         ensures texts { IsTrue result ↔ (canonical_text self.now ≡ canonical_text other.now) }
@@ -367,8 +365,8 @@ impl Plan {
             && self.seed == other.seed
     }
 
-    /// The plan's one text: compact JSON, keys in byte order, the seed in lower-case digits. Two plans say the same
-    /// where their texts are equal.
+    /// The canonical text of the plan: compact JSON, keys in byte order, the seed in lower-case digits. Two plans are
+    /// the same if their texts are equal.
     pub fn canonical(&self, alloc: Global) -> Result<Vec<u8>, AllocError>
         ensures text { IfOk result (λ t. t.items ≡ canonical_text self.now) }
     {

@@ -60,8 +60,8 @@ fn shorts(alloc: Global, items: &[Value]) -> Result<Vec<u16>, AllocError>
     Ok(numbers)
 }
 
-/// Checks a plan's lists with its liars and links: that they give some cell, that the faults are no
-/// more than the processes, and that the cells are no more than 4096.
+/// Checks a plan's lists with its liars and links: that there is a cell, that no more processes are faulty than there
+/// are, and that there are at most 4096 cells.
 pub(crate) fn check_together(lists: &Lists, value: &Value) -> Result<(), Refusal>
     requires checked { IsChecked (view value.now) }
     requires lists { AreListsOf (view value.now) lists.now }
@@ -100,7 +100,7 @@ fn check_limits(cells: u64, faults: u64, nodes: u64) -> Result<(), Refusal>
     Ok(())
 }
 
-/// The largest number of a list, 0 where it is empty.
+/// The largest number of a list, 0 if it is empty.
 pub(crate) fn largest(numbers: &[u16]) -> u16
     ensures { result ≡ largest numbers.now }
 {

@@ -11,7 +11,7 @@ use crate::{Plan, PlanFault, Refusal};
 use serde_json::Value;
 use std::alloc::Global;
 
-/// The plan that a text is, which is not too long.
+/// The plan of a text that is not too long.
 pub(crate) fn read_text(alloc: Global, text: &str) -> Result<Plan, PlanFault>
     ensures ok { IfOk result (λ p. found_in (read text.now) ≡ Ok p) }
     ensures err { IfErr result (λ e. IsFaultOfText (found_in (read text.now)) e) }
@@ -26,7 +26,7 @@ pub(crate) fn read_text(alloc: Global, text: &str) -> Result<Plan, PlanFault>
     }
 }
 
-/// The plan that a JSON value is.
+/// The plan of a JSON value.
 #[tactic(auto, unfolding(crate::specs::Accepted::plan_in))]
 fn read_value(alloc: Global, value: &Value) -> Result<Plan, PlanFault>
     ensures ok { IfOk result (λ p. plan_in (view value.now) ≡ Ok p) }

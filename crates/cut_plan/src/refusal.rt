@@ -7,23 +7,23 @@ use std::alloc::{AllocError, AllocFailed};
 use std::fmt;
 use thiserror::Error;
 
-/// What is wrong with a text that is no accepted plan. A refusal that carries a field carries the first
-/// such field in byte order of its name. Printed, it is its number, its name and the field.
+/// What is wrong with a text that is not an accepted plan. A refusal of a field names the first such field in byte
+/// order. It is printed as its number, its name and the field.
 #[derive(Clone, Copy, Debug, PartialEq, Eq)]
 pub enum Refusal {
-    /// The text is no JSON that the reader accepts.
+    /// The text is not JSON.
     NotJson,
-    /// The JSON value is no object.
+    /// The JSON value is not an object.
     NotObject,
-    /// The object has a field that no plan has.
+    /// The object has an unknown field.
     UnknownField,
     /// The object lacks this field.
     MissingField(Field),
-    /// This field's value is of another kind than the field's.
+    /// This field's value has the wrong kind.
     WrongKind(Field),
     /// This field's value is out of its range, or an empty list.
     OutOfRange(Field),
-    /// This field's list does not rise strictly.
+    /// This field's list is not strictly ascending.
     NotRising(Field),
     /// No combination of the lists has `l <= h <= k`.
     NoCell,
@@ -84,12 +84,12 @@ impl fmt::Display for Refusal {
     }
 }
 
-/// Why no plan was made. Printed, it is its number, its name and what it carries.
+/// Why no plan was made. It is printed as its number, its name and the field, if it names one.
 #[derive(Debug, Drop, Error)]
 pub enum PlanFault {
-    /// A growth of memory was refused.
+    /// Memory ran out.
     Memory,
-    /// The text is no accepted plan.
+    /// The text is not an accepted plan.
     Refused(Refusal),
 }
 

@@ -18,7 +18,7 @@ pub enum RunFault {
     Checkpoint,
     /// A write of the wire failed.
     Write(Sent),
-    /// A growth of memory was refused.
+    /// Memory ran out.
     WorkMemory,
     /// What was counted on the board and what the book's history accepted differ, trials are lacking once all lines
     /// are there, or calls could be counted no further.

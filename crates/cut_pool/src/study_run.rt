@@ -43,7 +43,7 @@ pub struct StudyRun<'a, D: Disk> {
     pub plan: &'a Plan,
     /// The journal, and the slips that it was opened with.
     pub kept: Option<(Journal<D>, Vec<Slip>)>,
-    /// How many trials a piece has, but for the last one of a gap.
+    /// How many trials a piece has, except for the last one of a gap.
     pub piece_size: u32,
     /// How many workers there are, 1 to 64. One of them is the thread that writes.
     pub workers: u32,

@@ -165,7 +165,7 @@ fn is_right(alloc: Global, trial: Trial) -> Result<bool, Fail> {
     goes_so(alloc, &mut book, trial)
 }
 
-/// A book of the study over a new disk that fails in the call of this number, or never where that is 0.
+/// A book of the study over a new disk that fails in the call of this number, or never if that is 0.
 fn book_over(alloc: Global, fail_at: u64) -> Result<KeptBook, Fail> {
     let disk = FaultyDisk::of(alloc, Vec::new(alloc), fail_at, Tear::Nothing)?;
     disk.arm();

@@ -97,8 +97,8 @@ impl Receivers {
         }
     }
 
-    /// Lists the members that the receiver in a lane proposes, ascending, in place of what the list held. Fails only
-    /// where memory runs out, and the list is empty then.
+    /// Lists the members that the receiver in a lane proposes, ascending, in place of what the list held. Fails only if
+    /// memory runs out, and the list is empty then.
     pub fn members(
         &self,
         nodes: &Nodes,

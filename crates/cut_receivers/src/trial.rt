@@ -9,7 +9,7 @@ use cut_detector::Rule;
 use cut_nodes::Nodes;
 use cut_rings::{Edge, Rings};
 
-/// A trial as all its receivers hear it.
+/// What all receivers of a trial have in common.
 #[derive(Clone, Copy, Debug)]
 pub struct Trial<'a> {
     /// The observer rings of the study.

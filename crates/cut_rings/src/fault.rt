@@ -6,10 +6,10 @@ use std::alloc::AllocError;
 use std::fmt;
 use thiserror::Error;
 
-/// Why lists are no rings. Printed, it is its number and its name.
+/// Why lists are not rings. It is printed as its number and its name.
 #[derive(Debug, Drop, Error)]
 pub enum RingsFault {
-    /// A growth of memory was refused.
+    /// Memory ran out.
     Memory,
     /// A list does not hold each process once.
     NotPermutation,

@@ -9,7 +9,7 @@ ghost use Rattle.cut_rings.specs.inside.Listed.{is_order, has_all};
 use crate::ring::Ring;
 use std::alloc::{AllocError, Global};
 
-/// The rings that lists of the first processes are.
+/// The rings that lists of the first processes give.
 pub(crate) fn listed_rings(
     alloc: Global,
     nodes: u16,
@@ -29,7 +29,7 @@ pub(crate) fn listed_rings(
     Ok(rings)
 }
 
-/// The ring that a list of the first processes is.
+/// The ring that a list of the first processes gives.
 fn listed_ring(alloc: Global, nodes: u16, list: &[u16]) -> Result<Ring, AllocError>
     requires few { nodes ≤ MOST_NODES }
     requires each_once { IsOrder nodes list.now }

@@ -51,9 +51,9 @@ impl Rings {
         Ok(Rings { nodes, rings })
     }
 
-    /// The rings that lists of the processes 0 to n - 1 are: the position of a process on a ring is its
-    /// index in that ring's list (this project's profile). Too few processes or lists are reported before a
-    /// list that does not hold each process once, and both before memory is asked for.
+    /// The rings that lists of the processes 0 to n - 1 give: the position of a process on a ring is its index in that
+    /// ring's list. Too few processes or lists are reported first, then a list that does not hold each process once.
+    /// Both take no memory.
     pub fn from_lists(alloc: Global, n: u16, lists: &[Vec<u16>]) -> Result<Rings, RingsFault>
         requires few_nodes { n ≤ MOST_NODES }
         requires few_lists { length lists.now ≤ 32 }

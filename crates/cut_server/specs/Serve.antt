@@ -70,7 +70,7 @@ IsWrittenUpTo sent report old new =
     × (new ≡ write_failed (wrote old (take sent (accepted_line (accepted_in_all report)))))
 
 -- what is written of a server of this many studies: the line of the report that it returns, or as many of its first
--- bytes as were written before a write failed; and nothing where there is no report. No other call of the wire fails.
+-- bytes as were written before a write failed; and nothing if there is no report. No other call of the wire fails.
 abbrev pub WritesReport : ℕ → Result (List SlotEnd) CliFault → WireLog → WireLog → Type 0
 WritesReport studies (Ok report) old new = IsReport studies report × IsWrittenWhole report old new
 WritesReport studies (Err (Write fault)) old new =

@@ -32,7 +32,7 @@ const LIAR_TABLE: &str =
     "k,h,l,f,trials,receivers,conflicts,silent,extra,votes,decided,right,ppm\n1,1,1,0,1,5,0,0,5,5,1,0,0\n";
 
 /// A server of this many sessions, and the line with which it ends: what it writes, or its fault. What it writes is not
-/// compared where there is no line.
+/// compared if there is no line.
 struct Server {
     socket: &'static str,
     sessions: u32,

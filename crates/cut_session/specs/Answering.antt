@@ -91,7 +91,7 @@ abbrev pub ReportsCount : View → View → ℕ → List ℕ → Type 0
 ReportsCount low high study out =
     (seen_in study low ≤ seen_in study high) × (out ≡ frame kind.Count (to_be_bytes w64 (seen_in study high)))
 
--- that there is no slot of this number, exactly where there is none
+-- that there is no slot of this number, exactly if there is none
 abbrev pub AnswersCount : HallValue → View → View → ℕ → List ℕ → Type 0
 AnswersCount hall low high study out =
     ((study < hall.slots) × ReportsCount low high study out) ⊎ ((hall.slots ≤ study) × (out ≡ error_frame code.NoSlot))

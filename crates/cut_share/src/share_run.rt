@@ -51,8 +51,8 @@ impl<G: Gate + Sync> ShareRun<'_, G> {
     /// share has, all of which are held then.
     ///
     /// Pieces are run in batches, in several threads, and each result is appended to the journal as a slip of its own.
-    /// Where memory runs out twice for a piece, the others are run all the same, and then this is reported. A disk
-    /// that fails ends the run at once.
+    /// If memory runs out, twice for a piece, the others are run all the same, and then this is reported. A disk that
+    /// fails ends the run at once.
     pub fn run<D: Disk, R: Threads + Wait + Sync>(
         self,
         rt: &R,

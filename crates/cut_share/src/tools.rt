@@ -27,8 +27,8 @@ impl<G: Gate> Tools<'_, G> {
     ghost use Rattle.std.specs.Prelude.{All, IfSome};
     ghost use Rattle.cut_share.specs.inside.Tasks.{IsRun, pieces_of};
 
-    /// Runs the piece of each task, in as many threads as there may be and can be made. Where memory runs out twice
-    /// for a piece, its task has no result.
+    /// Runs the piece of each task, in as many threads as there may be and can be made. If memory runs out, twice for a
+    /// piece, its task has no result.
     pub(crate) fn run_all<R: Threads + Wait + Sync>(&self, rt: &R, tasks: &mut [Task])
     where
         G: Sync,
@@ -55,7 +55,7 @@ impl<G: Gate> Tools<'_, G> {
         task.result = self.compute(task.piece);
     }
 
-    /// Runs a piece, and once more where memory ran out.
+    /// Runs a piece, and once more if memory ran out.
     fn compute(&self, piece: Piece) -> Option<PieceResult>
         ensures { IfSome result (λ r. r ≡ record { plan = self.now.plan.now; piece = piece }) }
     {

@@ -20,9 +20,9 @@ next_after (Err Full) = next.Nothing
 next_after (Err (Refused book.Checkpoint)) = next.Study
 next_after outcome = next.Piece
 
--- what a worker draws in a slot of a hall of this many: a piece of its book, by the number that the seat drew; no number
--- where the work is ended or the seat may draw no more; and no piece where there is no book, for which no number is drawn,
--- or none of the number that was drawn
+-- what a worker draws in a slot of a hall of this many: a piece of its book, by the number that the seat drew; no
+-- number where the work is ended or the seat may draw no more; and no piece if there is no book, for which no number is
+-- drawn, or none of the number that was drawn
 abbrev pub DrawsPiece : {D : Type 0} → Result Drawn Next → ℕ → ℕ → Option (BookValue D) → Bool → View → View → Type 0
 DrawsPiece (Ok drawn) slots study b stopped old new =
     (stopped ≡ false) × (drawn.study ≡ study) × (piece_at b drawn.number ≡ Some drawn.piece)

@@ -27,7 +27,7 @@ pub fn lacks_passes<M: CallLedger>(passes: &Vec<Pass<M>>, given: u32) -> bool
     passes.len() < given as usize
 }
 
-/// Takes a board's passes apart. Fails only where memory runs out; then they are gone.
+/// Takes a board's passes apart. Fails only if memory runs out; then they are gone.
 pub fn take_apart<M: CallLedger>(
     alloc: Global,
     board: &Board,

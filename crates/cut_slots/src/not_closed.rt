@@ -19,7 +19,7 @@ pub struct Mismatch {
 /// Why a hall was not closed, with what comes back.
 #[derive(Drop)]
 pub enum NotClosed<T> {
-    /// A growth of memory was refused. The hall and its passes are gone.
+    /// Memory ran out. The hall and its passes are gone.
     Memory,
     /// The counts of a study differ. The hall and its passes are gone.
     AuditMismatch(Mismatch),

@@ -60,7 +60,7 @@ impl<D: Disk + Drop, K: CallLedger> Slot<D, K> {
     }
 
     /// Hands the result of a drawn piece to the book, or returns how the worker goes on where it is not accepted. The
-    /// piece of this number is lost where memory runs out for its result.
+    /// piece of this number is lost if memory runs out for its result.
     fn take_drawn<M: CallLedger, C: CallCounter<M, K>>(
         &mut self,
         counter: &C,

@@ -10,7 +10,7 @@ use thiserror::Error;
 /// Why the line of a cell was not given. Printed, it is its number, its name and the cell.
 #[derive(Debug, Drop, Error)]
 pub enum RowFault {
-    /// A growth of memory was refused.
+    /// Memory ran out.
     Memory,
     /// Not every trial of this cell is held.
     NotDone(u32),

@@ -43,7 +43,7 @@ impl Ballot {
         self.votes.clear();
     }
 
-    /// Counts a proposal. Fails only where memory runs out, and then counts nothing.
+    /// Counts a proposal. Fails only if memory runs out, and then counts nothing.
     pub fn add(&mut self, proposal: &Proposal) -> Result<(), AllocError>
         ensures counted { OnOk result ((cast : List (List ℕ)) → length cast < 2 ^ 64 - 1 →
             HasCounted self.old cast → HasCounted self.new (cast ++ proposal.now.members ∷ [])) }
@@ -77,7 +77,7 @@ impl Ballot {
         Ok(())
     }
 
-    /// The largest number of proposals with equal members, 0 where there is none.
+    /// The largest number of proposals with equal members, 0 if there is none.
     pub fn largest(&self) -> u64
         ensures { (cast : List (List ℕ)) → HasCounted self.now cast → result ≡ most_votes cast }
     {

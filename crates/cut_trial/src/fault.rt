@@ -10,7 +10,7 @@ use thiserror::Error;
 /// Why a piece of a study can't be run. Printed, it is its number and its name.
 #[derive(Debug, Drop, Error)]
 pub enum TrialFault {
-    /// A growth of memory was refused.
+    /// Memory ran out.
     Memory,
     /// The piece is empty, goes past the last trial, or lies in two cells.
     BadPiece,

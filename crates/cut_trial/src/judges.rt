@@ -64,7 +64,7 @@ struct Round<'a> {
     ghost unasked: { slots ≡ None → version_of cast.alerts.now.study.plan.now.failing ≡ One },
 }
 
-/// What is found of a receiver: what it proposes, and at which place, where that is known. It is 0 where the plan's
+/// What is found of a receiver: what it proposes, and at which place, if that is known. It is 0 where the plan's
 /// version doesn't ask for it.
 #[derive(Clone, Copy)]
 struct Found {

@@ -22,9 +22,9 @@ pub(crate) const EXACT: Verdict = Verdict {
     extra: false,
 };
 
-/// Judges a receiver's proposal, if it made one, by the trial's roles: a conflict lacks a target (the
-/// Rapid paper's sensitivity study), and an extra one has a process that is no target (this project's
-/// profile). It may be both. The members may be any, in any order.
+/// Judges a receiver's proposal, if it made one, by the trial's roles: a conflict lacks a target (the Rapid paper's
+/// sensitivity study), and an extra one has a process that is not a target (this project's profile). It may be both.
+/// The members may be any, in any order.
 pub fn verdict(proposal: Option<&Proposal>, roles: &Roles) -> Verdict
     ensures { result ≡ judged roles.now (option_copied proposal.entry) }
 {

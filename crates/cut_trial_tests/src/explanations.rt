@@ -158,7 +158,7 @@ impl CpuClock for Script<'_> {
     }
 }
 
-/// The line of the estimate for a study by a clock that is read at these times, empty where there is none.
+/// The line of the estimate for a study by a clock that is read at these times, empty if there is none.
 fn estimated(alloc: Global, plan: &Plan, times: &str) -> Result<String, AllocError> {
     let clock = Script {
         left: Cell::new(times),
@@ -173,9 +173,10 @@ fn estimated(alloc: Global, plan: &Plan, times: &str) -> Result<String, AllocErr
 const BY_WORKERS: &str =
     " of a processor by one worker, by n workers about 1/n of it (measured on ";
 
-/// How many trials the study has, times at which a clock is read, and the time and the trials of the estimate. The rings are
-/// made between the first two times; then each piece has its two. A mean is over the last pieces of one size, but for the
-/// first piece: over 300 ms; the same and 60 ms for the rings; 1,100 ms; 2, 6 and 250 ms, in pieces of four; half of 1 ms.
+/// How many trials the study has, times at which a clock is read, and the time and the trials of the estimate. The
+/// rings are made between the first two times; then each piece has its two. A mean is over the last pieces of one size,
+/// except for the first piece: over 300 ms; the same and 60 ms for the rings; 1,100 ms; 2, 6 and 250 ms, in pieces of
+/// four; half of 1 ms.
 const ESTIMATES: &str = "2||
 2|5|
 2|5 6 7|
@@ -196,7 +197,8 @@ fn is_estimated(alloc: Global, row: &str) -> Result<bool, PlanFault> {
     Ok(found.as_str() == estimate_line(alloc, wanted)?.as_str())
 }
 
-/// The line of an estimate of this time and trials, which are written with a bar between them, and none where there is no bar.
+/// The line of an estimate of this time and trials, which are written with a bar between them, and none if there is no
+/// bar.
 fn estimate_line(alloc: Global, wanted: &str) -> Result<String, AllocError> {
     match wanted.split_once('|') {
         Some((time, trials)) => format!(in alloc; "{time}{BY_WORKERS}{trials}\n"),

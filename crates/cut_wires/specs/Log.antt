@@ -52,7 +52,7 @@ all_failed f = min (f.reads + f.writes) (2 ^ 64 - 1)
 
 -- ---- both
 
--- what passed over a wire, where that is known, and the calls that failed
+-- what passed over a wire, if that is known, and the calls that failed
 pub record WireLog : Type 0 where
   pub traffic : Option Traffic
   pub failed : Failed

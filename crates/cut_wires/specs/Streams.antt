@@ -43,7 +43,7 @@ new_streams r w = record {
   failed_writes = 0;
 }
 
--- the bytes of a reader or a writer, where they are known
+-- the bytes of a reader or a writer, if they are known
 abbrev pub known : Option (List ℕ) → List ℕ
 known bytes = unwrap_or bytes []
 

@@ -5,11 +5,11 @@ use crate::{MemoryWire, Wire, WireFault};
 use std::alloc::Global;
 use std::marker::Model;
 
-/// A wire in memory that fails where its maker says, to try out what a failure leaves.
+/// A wire in memory that fails at chosen calls, to try out what a failure leaves.
 ///
-/// Its writes take `room` bytes in all: one that would pass that is cut, and the next one fails. So does the
-/// read with the number `fail_read`, counted from 1, where that is not 0. Each fails once, and after it the
-/// wire is as any other in memory.
+/// Its writes take `room` bytes in all: one that would pass that is cut, and the next one fails. So does the read with
+/// the number `fail_read`, counted from 1, if that is not 0. Each fails once, and after it the wire is as any other in
+/// memory.
 #[derive(Debug, Drop)]
 pub struct FaultyWire {
     memory: MemoryWire,

@@ -1,7 +1,7 @@
-//! Wires: devices that bytes are read from and written to, and what is sent over them.
+//! Wires: devices from which bytes are read and to which bytes are written.
 //!
-//! A [`Wire`] fails at a call now and then, and counts those calls. Contracts see its log: what passed over it, where
-//! that is known, and how many of its calls failed. [`MemoryWire`] and [`FaultyWire`] are wires in memory, and
+//! A [`Wire`] fails at a call now and then, and counts those calls. Contracts see its log: what passed over it, if that
+//! is known, and how many of its calls failed. [`MemoryWire`] and [`FaultyWire`] are wires in memory, and
 //! [`StreamWire`] makes one of a reader and a writer. [`send_all`] writes all of some bytes, and a [`Line`] counts the
 //! bytes that it sends; [`send_rows`] sends a table over it, row by row.
 #![tactic(auto)]

@@ -13,7 +13,7 @@ pub struct Line<'a, W> {
 impl<'a, W: Wire> Line<'a, W> {
     ghost use Rattle.cut_wires.specs.Sending.{Receives, Sends, sending};
 
-    /// A line over a wire, over which nothing was sent yet.
+    /// A wire over which nothing was sent yet.
     pub fn new(wire: &'a mut W) -> Line<'a, W>
         ensures { sending W.log result ≡
             record { wire = wire.entry.ghost_name; log = W.log wire.old; sent = 0 } }
@@ -21,7 +21,7 @@ impl<'a, W: Wire> Line<'a, W> {
         Line { wire, sent: 0 }
     }
 
-    /// A line over a wire over which this many bytes were sent before.
+    /// A wire over which this many bytes were sent before.
     pub fn after(wire: &'a mut W, sent: u64) -> Line<'a, W>
         ensures { sending W.log result ≡
             record { wire = wire.entry.ghost_name; log = W.log wire.old; sent = sent } }
@@ -29,7 +29,7 @@ impl<'a, W: Wire> Line<'a, W> {
         Line { wire, sent }
     }
 
-    /// How many bytes were sent, those of a write before one that failed too.
+    /// How many bytes were sent, including those before a write that failed.
     pub fn sent(&self) -> u64
         ensures { result ≡ (sending W.log self.now).sent }
     {

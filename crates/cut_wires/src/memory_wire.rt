@@ -9,8 +9,8 @@ use std::marker::Model;
 
 /// A wire in memory: its reads give the bytes of an input, and its writes add to an output.
 ///
-/// A call moves at most `per` bytes; with `per` 0 each read fails, and each write of some bytes. So does a
-/// write for whose bytes there is no memory.
+/// A call moves at most `per` bytes. With `per` 0 each read fails, and each write that is not empty. A write also fails
+/// if memory runs out.
 #[derive(Debug, Drop)]
 pub struct MemoryWire {
     input: Vec<u8>,

@@ -5,7 +5,7 @@ ghost use Rattle.cut_wires.specs.Sending.{Sends, sending};
 
 use crate::{Line, Sent, Wire};
 
-/// The most bytes of a header or a row of a table: what a framing is given, which may put it into one message.
+/// The most bytes of a header or a row of a table, which fit into one message.
 pub const LONGEST_ROW: usize = 65_536;
 
 /// How a text is put on a line: as it is, or as the payload of a message.

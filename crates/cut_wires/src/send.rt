@@ -3,7 +3,7 @@ ghost use Rattle.cut_wires.specs.Log.{SendsAll};
 use crate::Wire;
 use thiserror::Error;
 
-/// A write that failed, or took nothing, after `sent` bytes of what was to be written.
+/// A write that failed, or took nothing, after `sent` bytes.
 #[derive(Clone, Copy, Debug, PartialEq, Eq, Error)]
 #[error("a write failed after {sent} bytes")]
 pub struct Sent {
@@ -11,8 +11,7 @@ pub struct Sent {
     pub sent: u64,
 }
 
-/// Writes all the bytes, by as many writes as it takes. A write that fails is the last. This takes no
-/// memory of its own.
+/// Writes all bytes, by as many writes as it takes, up to the first that fails. It takes no memory.
 pub fn send_all<W: Wire>(wire: &mut W, bytes: &[u8]) -> Result<(), Sent>
     ensures { SendsAll result bytes.now (W.log wire.old) (W.log wire.new) }
 {

@@ -11,8 +11,8 @@ use std::snapshot::Snapshot;
 
 /// A wire over any reader and any writer.
 ///
-/// An interruption is a failure, and so is a write that takes nothing of some bytes. What passed over the wire is
-/// known where the bytes that the reader has left and those that the writer holds are.
+/// An interruption is a failure, and so is a write that takes nothing of some bytes. What passed over the wire is known
+/// if the bytes of the reader and of the writer are.
 #[derive(Drop)]
 pub struct StreamWire<R: Read, W: Write> {
     input: R,

@@ -8,22 +8,22 @@ use thiserror::Error;
 #[error("a call of the wire failed")]
 pub struct WireFault;
 
-/// A device that bytes are read from and written to, which counts its calls that fail.
+/// A device from which bytes are read and to which bytes are written. It counts its failed calls.
 ///
-/// An interruption is a failure, and so is a write that takes nothing of some bytes. A call that fails counts
-/// once, and one that does not leaves the counts, that of reads and that of writes; at 2^64 - 1 a count
-/// stays. What passed over a wire in memory is known, and of one over a socket only the counts are.
+/// An interruption is a failure, and so is a write that takes nothing of some bytes. A failed call adds one to the
+/// count of failed reads or writes, which stays at 2^64 - 1; other calls leave both. What passed is known for a wire in
+/// memory. For a socket only the counts are known.
 pub trait Wire {
-    /// What passed over the wire, where that is known, and how many of its calls failed.
+    /// What passed over the wire, if that is known, and how many of its calls failed.
     ghost log: { Self → WireLog };
 
-    /// Reads some bytes into the first places of the buffer, and returns how many. None are the end of the input.
+    /// Reads some bytes into the first places of the buffer, and returns how many; 0 is the end of the input.
     fn read(&mut self, buffer: &mut [u8]) -> Result<usize, WireFault>
         requires { 0 < length buffer.old }
         ensures bound { IfOk result (λ n. n ≤ length buffer.new) }
         ensures reads { Reads result buffer.new (log self.old) (log self.new) };
 
-    /// Writes some of the first bytes, and returns how many: at least one, where there is one.
+    /// Writes some of the first bytes, and returns how many: at least one, if there is one.
     fn write(&mut self, bytes: &[u8]) -> Result<usize, WireFault>
         ensures bound { IfOk result (λ n. n ≤ length bytes.now) }
         ensures some { 0 < length bytes.now → IfOk result (λ n. 0 < n) }
@@ -34,7 +34,7 @@ pub trait Wire {
         ensures { result ≡ all_failed (log self.now).failed };
 }
 
-/// A borrowed wire is one.
+/// A borrowed wire is a wire.
 impl<W: Wire> Wire for &mut W {
     ghost log = { λ w. W.log w.now };
 

@@ -9,7 +9,7 @@ abbrev pub SpansCover : Type 0
 SpansCover =
     (test : ℕ → Bool) (low n : ℕ) → flat_map numbers_in (spans test low n) ≡ filter test (range_with_len low n)
 
--- a span of some of n numbers from low on
+-- a span that is not empty, of numbers from `low` to `low + n - 1`
 pub record IsWithin (low n : ℕ) (s : Span) : Type 0 where
   pub some : 0 < s.count
   pub starts : low ≤ s.first

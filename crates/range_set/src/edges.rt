@@ -8,8 +8,8 @@ use crate::run::Run;
 use std::alloc::{AllocError, Global};
 use std::marker::Model;
 
-/// The numbers at which a set begins or ends, ascending: a number is in the set where an odd number of edges
-/// is at most that number.
+/// The numbers at which runs of a set begin and end, ascending. A number is in the set if an odd number of edges is at
+/// most that number.
 #[derive(Debug, Drop)]
 pub(crate) struct Edges {
     edges: Vec<u32>,
@@ -28,7 +28,7 @@ impl Model for Edges {
 }
 
 impl Edges {
-    /// Those of a set without numbers.
+    /// The edges of the empty set.
     pub fn none(alloc: Global) -> Edges
         ensures { result.edges ≡ [] }
     {
@@ -37,7 +37,7 @@ impl Edges {
         }
     }
 
-    /// Whether a number is in the set, and up to where the same is true of those that follow it.
+    /// Whether `number` is in the set, and where that changes next.
     pub fn run_at(&self, number: u32) -> Run
         requires { number < 2 ^ 32 - 1 }
         ensures { IsRun (is_within self.now.edges) number result }
@@ -49,14 +49,14 @@ impl Edges {
         }
     }
 
-    /// Whether numbers can be put in without memory.
+    /// Whether a run can be inserted without memory.
     pub fn has_room(&self) -> bool
         ensures { result ≡ self.now.room }
     {
         self.edges.len() + 2 <= self.edges.capacity()
     }
 
-    /// Makes room for two edges more.
+    /// Reserves room for two more edges.
     pub fn reserve(&mut self) -> Result<(), AllocError>
         ensures ok { OnOk result (self.new ≡ record self.old { room = true }) }
         ensures room { IsTrue self.old.room → IsOk result }
@@ -65,8 +65,7 @@ impl Edges {
         self.edges.reserve(2)
     }
 
-    /// Turns the numbers from one up to another round: those that were in the set are not, and those that were
-    /// not are.
+    /// Flips membership of the numbers `from..end`.
     pub fn flip(&mut self, from: u32, end: u32)
         requires order { from ≤ end }
         requires room { IsTrue self.old.room }
@@ -78,7 +77,7 @@ impl Edges {
     }
 }
 
-/// The edge of an index, or a number above all others.
+/// The edge at an index, or the greatest number of 32 bits past the last one.
 fn edge_at(edges: &[u32], at: usize) -> u32
     ensures within { at < length edges.now → result ≡ slice_index_or edges.now at 0 }
     ensures past { length edges.now ≤ at → result ≡ 2 ^ 32 - 1 }
@@ -89,7 +88,7 @@ fn edge_at(edges: &[u32], at: usize) -> u32
     u32::MAX
 }
 
-/// How many edges are at most a number.
+/// The number of edges that are at most `number`.
 fn edges_up_to(edges: &[u32], number: u32) -> usize
     requires { IsNonDecreasing edges.now }
     ensures within { result ≤ length edges.now }
@@ -99,7 +98,7 @@ fn edges_up_to(edges: &[u32], number: u32) -> usize
     edges.partition_point(|edge| *edge <= number)
 }
 
-/// Turns all numbers from one on round.
+/// Flips membership of all numbers from `number` on.
 fn flip_from(edges: &mut Vec<u32>, number: u32)
     requires sorted { IsNonDecreasing edges.old.items }
     requires room { vec_len edges.old < vec_capacity edges.old }

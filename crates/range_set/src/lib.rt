@@ -1,8 +1,7 @@
-//! A set of numbers below a length, kept by where it begins and ends.
+//! A set of numbers below a length, kept as the ends of its runs.
 //!
-//! A [`RangeSet`] takes memory for each run of numbers that it has, whatever their number, and little for a
-//! long run of numbers that it lacks. Its numbers are divided into *sections* of one length: memory is
-//! reserved a section at a time, and an insertion into one section leaves the memory of the others alone.
+//! A [`RangeSet`] takes memory for each run, however long it is. Its numbers are divided into *sections* of equal
+//! length. Memory is reserved by section, and an insertion into one section leaves the memory of the others alone.
 #![tactic(auto)]
 
 mod edges;

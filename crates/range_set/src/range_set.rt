@@ -11,8 +11,8 @@ use crate::section::Section;
 use std::alloc::{AllocError, Global};
 use std::marker::Model;
 
-/// A set of numbers below a length. Contracts see of each number whether it is in the set, and of each section
-/// whether numbers can be put into it without memory.
+/// A set of numbers below a length. Contracts see which numbers are in the set, and into which sections a span can be
+/// inserted without memory.
 #[derive(Debug, Drop)]
 pub struct RangeSet {
     sections: Vec<Section>,
@@ -31,8 +31,8 @@ impl Model for RangeSet {
 }
 
 impl RangeSet {
-    /// A set without numbers, whose length is that of its sections. It takes 24 bytes for each 65,536 numbers that are
-    /// begun in a section.
+    /// The empty set, whose length is that of all its sections. It takes 24 bytes for each 65,536 numbers of a section,
+    /// rounded up.
     pub fn new(alloc: Global, sections: u32, section_len: u32) -> Result<RangeSet, AllocError>
         requires some { 0 < section_len }
         requires few { sections * section_len < 2 ^ 32 }
@@ -50,14 +50,14 @@ impl RangeSet {
         })
     }
 
-    /// The length: numbers below it can be in the set.
+    /// The length: the set has numbers below it.
     pub fn len(&self) -> u32
         ensures { result ≡ length self.now.held }
     {
         self.sections.len() as u32 * self.section_len
     }
 
-    /// Whether a span has some numbers, all of them of one section.
+    /// Whether a span is not empty and lies in one section.
     pub fn is_of_section(&self, span: Span) -> bool
         ensures { IsTrue result ↔ IsOfSection self.now span }
     {
@@ -76,7 +76,7 @@ impl RangeSet {
         self.run_at(number).held
     }
 
-    /// Whether some number of a span is in the set.
+    /// Whether any number of a span is in the set.
     pub fn overlaps(&self, span: Span) -> bool
         requires { span.first + span.count ≤ length self.now.held }
         ensures { result ≡ overlaps self.now span }
@@ -92,7 +92,7 @@ impl RangeSet {
         self.is_all(span, true)
     }
 
-    /// Whether every number of a span is in the set, or whether none is.
+    /// Whether all numbers of a span are in the set (`held`), or none is.
     fn is_all(&self, span: Span, held: bool) -> bool
         requires { span.first + span.count ≤ length self.now.held }
         ensures { result ≡ list_all (λ t. flipped (not held) (has self.now t)) (numbers_in span) }
@@ -118,7 +118,7 @@ impl RangeSet {
         span.first + span.count
     }
 
-    /// Whether numbers can be put into a section without memory.
+    /// Whether a span can be inserted into a section without memory.
     pub fn has_room(&self, section: u32) -> bool
         requires { section < length self.now.room }
         ensures { result ≡ has_room self.now section }
@@ -126,7 +126,7 @@ impl RangeSet {
         self.sections[section as usize].has_room()
     }
 
-    /// Makes room for a span in a section.
+    /// Reserves room for one more span in a section.
     pub fn reserve(&mut self, section: u32) -> Result<(), AllocError>
         requires { section < length self.old.room }
         ensures ok { OnOk result (self.new ≡ record self.old { room = slice_set self.old.room section true }) }
@@ -136,8 +136,7 @@ impl RangeSet {
         self.sections[section as usize].reserve()
     }
 
-    /// Puts the numbers of a span in, none of which is in the set. Fails only where memory runs out, and never
-    /// where the section has room.
+    /// Inserts a span, none of whose numbers is in the set. It never fails if the section has room.
     pub fn insert(&mut self, span: Span) -> Result<(), AllocError>
         requires section { IsOfSection self.old span }
         requires apart { overlaps self.old span ≡ false }
@@ -152,7 +151,7 @@ impl RangeSet {
         self.sections[section].insert(from, from + span.count)
     }
 
-    /// Adds the gaps of a span to others: the longest spans of its numbers that are not in the set, ascending.
+    /// Appends the gaps within a span to `gaps`: the longest spans of numbers that are not in the set, ascending.
     pub fn gaps_into(&self, span: Span, gaps: &mut Vec<Span>) -> Result<(), AllocError>
         requires { span.first + span.count ≤ length self.now.held }
         ensures { OnOk result (gaps.new.items
@@ -173,7 +172,7 @@ impl RangeSet {
         push_gap(gaps, start, end)
     }
 
-    /// Whether a number is in the set, and up to where the same is true of those that follow it.
+    /// Whether `number` is in the set, and where that changes next.
     fn run_at(&self, number: u32) -> Run
         requires { number < length self.now.held }
         ensures run { IsRun (has self.now) number result }
@@ -188,7 +187,7 @@ impl RangeSet {
     }
 }
 
-/// Adds the gap from one number up to another, if they are not one.
+/// Appends the gap `from..end` unless it is empty.
 fn push_gap(gaps: &mut Vec<Span>, from: u32, end: u32) -> Result<(), AllocError>
     requires { from ≤ end }
     ensures { OnOk result (gaps.new.items ≡ gaps.old.items ++ span_between from end) }

@@ -1,4 +1,4 @@
-/// What is known of the numbers from one on, up to `end`: whether they are all in a set, or none of them is.
+/// A run of numbers up to `end`: all of them are in a set, or none is.
 #[derive(Clone, Copy, Debug)]
 pub(crate) struct Run {
     pub held: bool,

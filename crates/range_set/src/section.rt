@@ -10,10 +10,10 @@ use crate::run::Run;
 use std::alloc::{AllocError, Global};
 use std::marker::Model;
 
-/// How many numbers a block has: an insertion moves as many edges at most.
+/// How many numbers a block has. An insertion moves at most as many edges.
 const BLOCK: u32 = 65536;
 
-/// Numbers below a length, in blocks that have edges of their own, so that an insertion moves few of them.
+/// The numbers of a section, in blocks with edges of their own, so that an insertion moves few edges.
 #[derive(Debug, Drop)]
 pub(crate) struct Section {
     blocks: Vec<Edges>,
@@ -29,7 +29,7 @@ impl Model for Section {
 }
 
 impl Section {
-    /// None of the numbers below a length.
+    /// An empty section of `len` numbers.
     pub fn new(alloc: Global, len: u32) -> Result<Section, AllocError>
         ensures { IfOk result (λ s. s.blocks ≡ replicate (div_ceil len BLOCK) []) }
     {
@@ -41,7 +41,7 @@ impl Section {
         Ok(Section { blocks })
     }
 
-    /// Whether a number is in the set, and up to where the same is true of those that follow it.
+    /// Whether the number at `place` is in the set, and where that changes next.
     pub fn run_at(&self, place: u32) -> Run
         requires below { place < 2 ^ 32 - 1 }
         requires within { place / BLOCK < length self.now.blocks }
@@ -54,14 +54,14 @@ impl Section {
         }
     }
 
-    /// Whether numbers can be put in without memory.
+    /// Whether a span can be inserted without memory.
     pub fn has_room(&self) -> bool
         ensures { result ≡ self.now.room }
     {
         have_room(&self.blocks)
     }
 
-    /// Makes room in every block.
+    /// Reserves room in every block.
     pub fn reserve(&mut self) -> Result<(), AllocError>
         ensures ok { OnOk result (self.new ≡ record self.old { room = true }) }
         ensures room { IsTrue self.old.room → IsOk result }
@@ -73,7 +73,7 @@ impl Section {
         Ok(())
     }
 
-    /// Puts the numbers from one up to another in, none of which is in the set.
+    /// Inserts the numbers `from..end`, none of which is in the set.
     pub fn insert(&mut self, from: u32, end: u32) -> Result<(), AllocError>
         requires some { from < end }
         requires within { (end - 1) / BLOCK < length self.old.blocks }
@@ -88,7 +88,7 @@ impl Section {
         Ok(())
     }
 
-    /// Turns the numbers from one up to another round.
+    /// Flips membership of the numbers `from..end`.
     fn flip(&mut self, from: u32, end: u32)
         requires some { from < end }
         requires within { (end - 1) / BLOCK < length self.old.blocks }
@@ -105,7 +105,7 @@ impl Section {
     }
 }
 
-/// Whether numbers can be put into each block without memory.
+/// Whether each block has room for a run.
 fn have_room(blocks: &[Edges]) -> bool
     ensures { result ≡ list_all (λ e. e.room) blocks.now }
 {

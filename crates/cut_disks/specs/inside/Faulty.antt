@@ -34,13 +34,13 @@ abbrev pub torn_call : Tear → ℕ → List ℕ → DiskCall
 torn_call Nothing at put = Torn at (at + length put)
 torn_call Everything at put = Write at put
 
--- a write: one in memory, but for the failing one, whose span was begun, unless memory ran out
+-- a write: one in memory, except for the failing one, whose span was begun, unless memory ran out
 abbrev pub FaultyWrites : {E : Type 0} → Result ⊤ E → Tear → Bool → ℕ → List ℕ → MemoryDiskValue → MemoryDiskValue
     → Type 0
 FaultyWrites result tear true at put old new = IsErr result × FailsWith (torn_call tear at put) old new
 FaultyWrites result tear false at put old new = Logs result (Write at put) old new
 
--- a sync: one in memory, but for the failing one, which does nothing
+-- a sync: one in memory, except for the failing one, which does nothing
 abbrev pub FaultySyncs : {E : Type 0} → Result ⊤ E → Bool → DiskCall → MemoryDiskValue → MemoryDiskValue → Type 0
 FaultySyncs result true call old new = IsErr result × (new ≡ with_failure old)
 FaultySyncs result false call old new = Logs result call old new

@@ -36,7 +36,7 @@ has_some xs = nat_lt 0 (length xs)
 abbrev pub is_in_range : Data → Field → Bool
 is_in_range d field = in_range (member_at d) field
 
--- whether the field's numbers rise strictly; a field of another kind has none
+-- whether the field's numbers are strictly ascending; a field of another kind has none
 abbrev pub rises_at : Data → Field → Bool
 rises_at d field = is_rising (numbers_at d field)
 

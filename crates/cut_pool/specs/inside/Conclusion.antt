@@ -15,7 +15,7 @@ use Rattle.cut_pool.specs.declared.study_run.Done.{Done}
 use Rattle.cut_pool.specs.inside.Faults.{of_line}
 use Rattle.cut_slots.specs.Report.{SlotEnd}
 
--- why a run did not begin: where memory ran out, which says nothing of the slips, or for the first bad slip
+-- why a run did not begin: if memory ran out, which says nothing of the slips, or for the first bad slip
 abbrev pub IsNotBegun : Values → List Slip → RunFault → Type 0
 IsNotBegun v slips WorkMemory = ⊤
 IsNotBegun v slips (BadSlip number) = IsFirstBad v slips number

@@ -16,7 +16,7 @@ of_line line.Checkpoint not_closed false = run.AuditMismatch
 of_line line.Stopped not_closed has_journal = unwrap_or not_closed run.AuditMismatch
 of_line line.AuditMismatch not_closed has_journal = run.AuditMismatch
 
--- and where its hall was not closed; passes are missing only where memory ran out
+-- and where its hall was not closed; passes are missing only if memory ran out
 abbrev pub of_closing : {T : Type 0} → NotClosed T → RunFault
 of_closing (closing.AuditMismatch mismatch) = run.AuditMismatch
 of_closing closing.Memory = run.WorkMemory

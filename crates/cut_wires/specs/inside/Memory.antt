@@ -28,8 +28,8 @@ HasRead old (Ok n) was is new =
     × (new ≡ record old { traffic = with_given old.traffic is n })
 HasRead old (Err e) was is new = (old.per ≡ 0) × (is ≡ was) × HasFailedRead old new
 
--- a write of bytes: as many of the first are taken as a call moves. A write of none never fails; another fails
--- where a call moves none, and else only where memory runs out.
+-- a write of bytes: as many of the first are taken as a call moves. A write of none never fails; another fails where a
+-- call moves none, and else only if memory runs out.
 abbrev pub HasWritten : MemoryWireValue → Result ℕ WireFault → List ℕ → MemoryWireValue → Type 0
 HasWritten old (Ok n) bytes new =
     (n ≡ min (length bytes) old.per) × (0 < length bytes → 0 < n)

@@ -16,11 +16,11 @@ is_within edges t = count_by (λ e. nat_le e t) edges % 2 == 1
 abbrev pub is_between : ℕ → ℕ → ℕ → Bool
 is_between from end t = nat_le from t && nat_lt t end
 
--- a truth value turned round, or left
+-- a truth value, flipped or not
 abbrev pub flipped : Bool → Bool → Bool
 flipped turn b = if turn then not b else b
 
--- from a number on, and up to the end of the run, a test gives the same
+-- a test gives the same result from a number to the end of the run
 pub record IsRun (test : ℕ → Bool) (from : ℕ) (r : Run) : Type 0 where
   pub longer : from < r.end
   pub lasts : (t : ℕ) → from ≤ t → t < r.end → test t ≡ r.held
