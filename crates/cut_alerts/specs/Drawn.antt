@@ -12,7 +12,7 @@ use Rattle.cut_alerts.specs.declared.role.Role.{Role}
 use Rattle.cut_alerts.specs.declared.role.Role.TheVariants.{Healthy, Crashed, Deaf, Liar, LinkSource}
 use Rattle.cut_alerts.specs.Assignment.{Assignment}
 
--- the role of process p, where it has this rank: of the f targets, which come first, the last ones are deaf
+-- the role of process p, if it has this rank: of the f targets, which come first, the last ones are deaf
 abbrev pub ranked_role : Values → ℕ → Layout → ℕ → ℕ → Role
 ranked_role v f r p rank =
     if nat_lt rank (f - deaf_among v.failing f) then Crashed

@@ -35,21 +35,21 @@ pub record AreLegalLists (n : ℕ) (targets liars : List ℕ) (links : List (ℕ
 abbrev pub source_role : List (ℕ × ℕ) → ℕ → Role
 source_role links p = unwrap_or (option_map (λ l. LinkSource l.1) (find (λ l. l.0 == p) links)) Healthy
 
--- the role of p: crashed, deaf, a liar or a link source where it is among these, and else healthy
+-- the role of p: crashed, deaf, a liar or a link source if it is among these, and else healthy
 abbrev pub given_role : List ℕ → List ℕ → List ℕ → List (ℕ × ℕ) → ℕ → Role
 given_role crashed deaf liars links p =
     if list_any (λ q. q == p) crashed then Crashed
     else (if list_any (λ q. q == p) deaf then Deaf
     else (if list_any (λ q. q == p) liars then Liar else source_role links p))
 
--- the roles of n processes, where some targets have crashed and others are deaf
+-- the roles of n processes, if some targets have crashed and others are deaf
 abbrev pub given_mixed : ℕ → List ℕ → List ℕ → List ℕ → List (ℕ × ℕ) → Dead → Assignment
 given_mixed n crashed deaf liars links dead = record {
   roles = map (λ p. given_role crashed deaf liars links p) (range_with_len 0 n);
   dead = dead;
 }
 
--- the roles of n processes, where all targets fail in one way
+-- the roles of n processes, if all targets fail in one way
 abbrev pub given : ℕ → List ℕ → List ℕ → List (ℕ × ℕ) → Faults → Dead → Assignment
 given n targets liars links fault.Crash dead = given_mixed n targets [] liars links dead
 given n targets liars links fault.Deaf dead = given_mixed n [] targets liars links dead

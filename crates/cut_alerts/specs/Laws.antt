@@ -44,7 +44,7 @@ AllDeafDrawsDeaf =
 
 -- ---- one deaf target more
 
--- the roles where this many targets are deaf
+-- the roles if this many targets are deaf
 abbrev pub drawn_with : Values → ℕ → ℕ → Source → Layout → Assignment
 drawn_with v deaf f d r = drawn (with_failing v (Mixed deaf)) f d r
 

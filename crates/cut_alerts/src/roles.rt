@@ -96,10 +96,10 @@ impl Roles {
         Ok(())
     }
 
-    /// The roles of `nodes` processes by lists: of the targets, which fail as `faults` says, of the
-    /// liars, and of the cut links, each from its source to another process. All others are healthy.
-    /// BadRole exactly where a process is not below `nodes`, where one is named twice among targets,
-    /// liars and sources, or where a link has equal ends (this project's profile).
+    /// The roles of `nodes` processes by lists: of the targets, which fail as `faults` says, of the liars, and of the
+    /// cut links, each from its source to another process. All others are healthy. BadRole exactly if a process is not
+    /// below `nodes`, where one is named twice among targets, liars and sources, or if a link has equal ends (this
+    /// project's profile).
     pub fn given(
         alloc: Global,
         nodes: u16,
@@ -121,9 +121,9 @@ impl Roles {
         }
     }
 
-    /// The roles of `nodes` processes as `given` gives them, where the targets of one list have crashed
-    /// and those of another are deaf. BadRole exactly where `given` answers it of the two lists together:
-    /// a process that is in both is named twice.
+    /// The roles of `nodes` processes as `given` gives them, if the targets of one list have crashed and those of
+    /// another are deaf. BadRole exactly where `given` answers it of the two lists together: a process that is in both
+    /// is named twice.
     pub fn given_mixed(
         alloc: Global,
         nodes: u16,

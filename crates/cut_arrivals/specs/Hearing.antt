@@ -47,7 +47,7 @@ abbrev pub first_times : ℕ → (Delivery → ℕ) → List Delivery → EdgeTi
 first_times end time deliveries ring s =
     rank_at end 1 (map time (filter (λ x. is_edge ring s x.edge) deliveries))
 
--- the least image of each edge, `last` where it isn't alerted, and the lows and highs by these
+-- the least image of each edge, `last` if it isn't alerted, and the lows and highs by these
 abbrev pub images_at : Hearing → ℕ → EdgeTimes
 images_at x last = first_times last (image_of x) (deliveries_of x)
 

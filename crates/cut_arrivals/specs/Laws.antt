@@ -69,7 +69,7 @@ HighsRise =
     (end last : ℕ) (r : Layout) (rule : Rule) (at : EdgeTimes) (tau : ℕ → ℕ) → IsRising end last tau → IsRule rule →
     (s : ℕ) → high_of last r rule (moved tau at) s ≡ tau (high_of end r rule at s)
 
--- where nothing is doubted, the closing of changed times gives the members at the first settled time
+-- if nothing is doubted, the closing of changed times gives the members at the first settled time
 abbrev pub ClosesAsSettled : Type 0
 ClosesAsSettled =
     (n count last : ℕ) (low high tau : ℕ → ℕ) (lows highs : List ℕ) (first time : ℕ) →
@@ -78,7 +78,7 @@ ClosesAsSettled =
     option_map (λ t. members_by n high t) (find (λ t. is_settled_by n low high t) (range_with_len 1 count))
     ≡ (if nat_lt time last then Some (members_by n (λ s. tau (high s)) time) else None)
 
--- what a receiver proposes has the members that the closing of images gives, where nothing is doubted
+-- what a receiver proposes has the members that the closing of images gives, if nothing is doubted
 abbrev pub ClosesAsProposed : Type 0
 ClosesAsProposed =
     (x : Hearing) (last : ℕ) (lows highs : List ℕ) (first time : ℕ) → IsHearing x → 2 ^ 30 ≤ last →
@@ -112,7 +112,7 @@ EndsStableAlike =
     (x : Hearing) (last : ℕ) → IsHearing x → 1 ≤ x.copies → 2 ^ 30 ≤ last → (s : ℕ) → s < x.layout.nodes →
     nat_lt (highs_at x last s) last ≡ is_stable x.layout x.rule (set_of x.edges) s
 
--- where no process is stable by all edges, no receiver proposes
+-- if no process is stable by all edges, no receiver proposes
 abbrev pub SilentWhereNoneEndsStable : Type 0
 SilentWhereNoneEndsStable =
     (x : Hearing) → IsHearing x →
@@ -144,7 +144,7 @@ UngainedCountByImage =
     is_gained x.layout x.rule (set_of x.edges) ring s ≡ false →
     full_time last x.layout x.rule (images_at x last) ring s ≡ images_at x last ring s
 
--- and one that is gained also from where both processes are reported
+-- and one that is gained also from when both processes are reported
 abbrev pub GainedCountByLows : Type 0
 GainedCountByLows =
     (x : Hearing) (last ring s : ℕ) →
@@ -177,7 +177,7 @@ ReportedAreNodes =
 
 -- what the members lack of some targets, and what they have besides, by the nodes alone
 
--- some target is none of the members where some is no node, or some node that is a target ends later
+-- some target is none of the members if some is no node, or some node that is a target ends later
 abbrev pub NodesShowLacking : Type 0
 NodesShowLacking =
     (x : Hearing) (last time : ℕ) (nodes lows highs : List ℕ) (is_target : ℕ → Bool) → IsHearing x → 2 ^ 30 ≤ last →
@@ -187,7 +187,7 @@ NodesShowLacking =
     ≡ (list_any (λ p. is_target p && not (list_any (λ m. m == p) nodes)) (range_with_len 0 x.layout.nodes)
     || list_any (λ p. is_target p && nat_lt time (highs_at x last p)) nodes)
 
--- some member is no target where some node that is none has ended
+-- some member is no target if some node that is none has ended
 abbrev pub NodesShowOther : Type 0
 NodesShowOther =
     (x : Hearing) (last time : ℕ) (nodes lows highs : List ℕ) (is_target : ℕ → Bool) → IsHearing x → 2 ^ 30 ≤ last →

@@ -20,7 +20,7 @@ times_to k at s = map (λ ring. at ring s) (range_with_len 0 k)
 unfoldable pub low_of : ℕ → Rule → EdgeTimes → ℕ → ℕ
 low_of end rule at s = rank_at end rule.l (times_to rule.k at s)
 
--- when a ring comes to count for s: where it is reported there, or else, with implicit alerts, where s and its observer
+-- when a ring comes to count for s: if it is reported there, or else, with implicit alerts, where s and its observer
 -- both are on L rings
 unfoldable pub full_time : ℕ → Layout → Rule → EdgeTimes → EdgeTimes
 full_time end r rule at ring s =

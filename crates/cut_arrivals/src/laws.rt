@@ -79,7 +79,7 @@ pub fn receivers_end_alike()
     images_are_below_never();
 }
 
-/// Where no process is stable in the end, no receiver proposes.
+/// If no process is stable in the end, no receiver proposes.
 pub fn none_proposes_where_none_ends_stable()
     ensures { SilentWhereNoneEndsStable }
 {}
@@ -92,7 +92,7 @@ pub fn images_stand_in_blocks()
 }
 
 /// Lows and highs are ranks of few values: the images of alerted edges, and with implicit alerts the lows of both
-/// processes where a ring is gained.
+/// processes if a ring is gained.
 pub fn few_values_give_lows_and_highs()
     ensures others { OthersNeverCome }
     ensures ungained { UngainedCountByImage }

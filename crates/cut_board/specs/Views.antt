@@ -50,7 +50,7 @@ counted_in study v = sum_by (counted_of study) v.log
 abbrev pub read_in : ℕ → View → ℕ
 read_in study v = greatest (read_of study) v.log
 
--- the greatest count of a study that it has seen: one that it read, or its own, where that is greater
+-- the greatest count of a study that it has seen: one that it read, or its own, if that is greater
 unfoldable pub seen_in : ℕ → View → ℕ
 seen_in study v = max (read_in study v) (counted_in study v)
 

@@ -100,8 +100,8 @@ abbrev pub faults_after : Option Answer → ℕ → ℕ
 faults_after (Some DiskFails) n = one_more n
 faults_after answer n = n
 
--- the answer that a hand-in gave, by what it returned and whether an append had failed before; none where it
--- was not made, as memory ran out
+-- the answer that a hand-in gave, by what it returned and whether an append had failed before; none if it was not made,
+-- as memory ran out
 abbrev pub answer_of : {T : Type 0} → Result T BookFault → StudyState → Option Answer
 answer_of (Ok done) s = Some Accepted
 answer_of (Err fault.Stranger) s = Some Stranger
@@ -113,8 +113,8 @@ answer_of (Err other) s = None
 abbrev pub hand_in_of : StudyState → Computed → Answer → Call
 hand_in_of s r answer = HandIn (slip_of r) (is_same_plan s.ledger.plan r.plan) answer
 
--- a result got an answer: it is the machine's, whose state follows; the call is the last of the history; and
--- the journal has its slip where it was accepted
+-- a result got an answer: it is the machine's, whose state follows; the call is the last of the history; and the
+-- journal has its slip if it was accepted
 pub record GivesAnswer {D : Type 0} (answer : Answer) (r : Computed) (old new : BookValue D) : Type 0 where
   pub answered : IsAnswer old.state r answer
   pub state : new.state ≡ after old.state (event_of answer r)

@@ -76,8 +76,8 @@ pub record IsHandedIn (s : StudyState) (slip : Slip) (is_own : Bool) (answer : A
   pub answered : IsAnswer s result answer
   pub next : t ≡ after s (event_of answer result)
 
--- a call is a step of the machine from one state to the next: a result with its answer; a piece that counts as
--- lost; or the line of a cell, which is given exactly where the cell is done, and changes nothing
+-- a call is a step of the machine from one state to the next: a result with its answer; a piece that counts as lost; or
+-- the line of a cell, which is given exactly if the cell is done, and changes nothing
 abbrev pub IsStep : StudyState → Call → StudyState → Type 0
 IsStep s (HandIn slip is_own answer) t = IsHandedIn s slip is_own answer t
 IsStep s (Lose piece) t =

@@ -10,9 +10,9 @@ use Rattle.cut_book.specs.declared.submit_fault.SubmitFault.TheVariants.{SlotsFu
 use Rattle.cut_book.specs.Faults.{of_shelf}
 use Rattle.cut_book.specs.Book.{BookValue}
 
--- over a disk with a journal, and over the slips that it has for the plan where its bytes are known, so not where they are
--- damaged or another plan's; where the shelf has none, without a journal, which only memory can keep from it; and
--- where the shelf fails, not at all
+-- over a disk with a journal, and over the slips that it has for the plan if its bytes are known, so not if they are
+-- damaged or another plan's; if the shelf has none, without a journal, which only memory can keep from it; and if the
+-- shelf fails, not at all
 abbrev pub OpensOver : {D : Type 0} → (D → DiskLog) → Values → Result (Option D) ShelfFault
     → Result (BookValue D) SubmitFault → Type 0
 OpensOver log_of v (Err fault) result = result ≡ Err (of_shelf fault)

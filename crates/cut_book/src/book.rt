@@ -123,10 +123,9 @@ impl<D: Disk> Book<D> {
 
     /// Takes a result: keeps its slip, if there is a journal, and enters it into the ledger.
     ///
-    /// It is refused, in this order: if memory runs out for its place in the history; with Checkpoint where an append
-    /// has failed before; as a stranger, or an overlap; if memory runs out in the ledger; and with Checkpoint where the
-    /// disk fails now, after which nothing is taken any more. Every call is added to the history, unless memory ran
-    /// out.
+    /// It is refused, in this order: if memory runs out for its place in the history; with Checkpoint if an append has
+    /// failed before; as a stranger, or an overlap; if memory runs out in the ledger; and with Checkpoint if the disk
+    /// fails now, after which nothing is taken any more. Every call is added to the history, unless memory ran out.
     ///
     /// Whatever a crash leaves of the disk at any moment says the run as it is resumed after an append that failed.
     pub fn hand_in(&mut self, offered: &PieceResult) -> Result<(), BookFault>
@@ -175,9 +174,9 @@ impl<D: Disk> Book<D> {
         piece >= self.division.len() || self.lost.get(piece).unwrap_or(true)
     }
 
-    /// The line of a cell, whose trials are all held, with a line feed. It has at most 294 bytes. That memory ran
-    /// out for its place in the history is reported first, and that it ran out for the line only where they are
-    /// all held. Every call is added to the history, unless memory ran out.
+    /// The line of a cell, whose trials are all held, with a line feed. It has at most 294 bytes. That memory ran out
+    /// for its place in the history is reported first, and that it ran out for the line only if they are all held.
+    /// Every call is added to the history, unless memory ran out.
     pub fn row(&mut self, alloc: Global, cell: u32) -> Result<Vec<u8>, BookFault>
         requires { cell < length (cells_of self.old.state.ledger.plan) }
         ensures line { IfOk result (λ line. line.items ≡ row_of self.old.state.ledger cell) }
@@ -241,9 +240,9 @@ impl<D: Disk> Book<D> {
         self.losable < self.lost.len()
     }
 
-    /// The journal, if there is one. It is that of the study: the same slips are kept, and the same one is
-    /// doubtful. Whatever a crash leaves of its disk now says the run as it is resumed. As many calls of the
-    /// disk have failed as when the book was opened, and one more where it is broken.
+    /// The journal, if there is one. It is that of the study: the same slips are kept, and the same one is doubtful.
+    /// Whatever a crash leaves of its disk now says the run as it is resumed. As many calls of the disk have failed as
+    /// when the book was opened, and one more if it is broken.
     pub fn journal(&self) -> Option<&Journal<D>>
         ensures value { option_copied result ≡ self.now.journal }
         ensures has { self.now.state.has_journal ≡ is_some self.now.journal }

@@ -124,7 +124,7 @@ fn end_of(
     Ok((end, refused))
 }
 
-// How joining the three checkpoints ends, where the second of them fails at a call, and the new one at another.
+// How joining the three checkpoints ends, if the second of them fails at a call, and the new one at another.
 fn end_where(alloc: Global, old_at: u64, new_at: u64) -> Result<(End, Option<usize>), Fail> {
     let mut files = files_of(alloc, old_at, new_at)?;
     end_of(alloc, &mut files, &OLD, None)
@@ -180,7 +180,7 @@ fn a_plan_is_read_from_its_file(rt: HostRuntime) -> Result<(), Fail> {
     Ok(())
 }
 
-// Three checkpoints are joined three times. Where no allocation is refused, each join is whole; the test also holds where
+// Three checkpoints are joined three times. If no allocation is refused, each join is whole; the test also holds where
 // any one allocation of the joins is refused, and is meant to be run so by hand.
 #[test]
 fn a_refused_allocation_stops_one_join(rt: HostRuntime) -> Result<(), Fail> {

@@ -173,8 +173,8 @@ fn a_share_outlives_its_wire(rt: HostRuntime) -> Result<(), Fail> {
     Ok(())
 }
 
-// The share is run three times over one file. Where no allocation is refused, each run is whole; the test also holds
-// where any one allocation of the runs is refused, and is meant to be run so by hand.
+// The share is run three times over one file. If no allocation is refused, each run is whole; the test also holds if
+// any one allocation of the runs is refused, and is meant to be run so by hand.
 #[test]
 fn a_refused_allocation_stops_one_run(rt: HostRuntime) -> Result<(), Fail> {
     let mut files = MemoryFiles::new(rt.alloc());

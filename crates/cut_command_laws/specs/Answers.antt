@@ -1,4 +1,4 @@
--- What is said where nothing is known of a server, and what is said over the wire of some server, is the same.
+-- What is said if nothing is known of a server, and what is said over the wire of some server, is the same.
 use Rattle.std.specs.Prelude.{◌≡◌, ◌⊎◌, None, Result, Err, ⊤}
 use Rattle.cut_wires.specs.Log.{WireLog}
 use Rattle.cut_commands.specs.Ask.{AsksFor, EndsAsk}

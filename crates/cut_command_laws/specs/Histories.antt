@@ -11,7 +11,7 @@ EndsByHistories studies (Ok done) old new =
     (report : List SlotEnd) × (IsReport studies report × IsWrittenWhole report old new)
 EndsByHistories studies (Err fault) old new = WritesReport studies (Err fault) old new
 
--- where the line has counts that are no more than the trials of plans, there are histories that give them
+-- if the line has counts that are no more than the trials of plans, there are histories that give them
 abbrev pub CountsHaveHistories : Type 0
 CountsHaveHistories =
     (studies : ℕ) (result : Result ⊤ CliFault) (old new : WireLog)

@@ -309,8 +309,8 @@ pub(crate) fn plan_given<'a>(given: &ArgMatches<'a>) -> Option<&'a str>
     given.get_str("plan")
 }
 
-/// The fault of a command line in which clap found this, with clap's text where it has one. If memory ran out, the
-/// fault has none.
+/// The fault of a command line in which clap found this, with clap's text if it has one. If memory ran out, the fault
+/// has none.
 fn line_fault(alloc: Global, kind: ErrorKind, error: Option<&Error>) -> LineFault
     ensures status { result.status ≡ status_of_kind kind }
     ensures text { kind ≡ ErrorKind.OutOfMemory → string_bytes result.text ≡ [] }

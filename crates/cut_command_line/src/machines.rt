@@ -15,7 +15,7 @@ use std::alloc::{AllocError, Global};
 pub(crate) const WRONG_SHARE: &str =
     "the value for '<I/N>' is none: expected the number of a share, from 1, a slash, and how many shares there are, at most 100000, as in 2/8";
 
-/// What is wrong where more checkpoints are given than are joined.
+/// What is wrong if more checkpoints are given than are joined.
 pub(crate) const TOO_MANY_FILES: &str =
     "the values for '<OLD>...' are too many: expected at most 1000 checkpoints";
 

@@ -27,7 +27,7 @@ AsksFrom plan (Err (Asked fault)) old new server_old server_new = AsksText plan 
 AsksFrom plan (Err fault) old new server_old server_new =
     GivesTextFrom plan (Err fault) old new × (server_new ≡ server_old)
 
--- where it is read from the wire
+-- if it is read from the wire
 abbrev pub AsksFor : Result ⊤ CliFault → WireLog → WireLog → WireLog → WireLog → Type 0
 AsksFor result old new server_old server_new = AsksFrom None result old new server_old server_new
 
@@ -44,7 +44,7 @@ HasConveyed plan old new =
     (text : List ℕ) × (written : List ℕ) × (length text ≤ LONGEST_TEXT)
     × ReadsThen plan text true (λ (l : WireLog). wrote l written) old new
 
--- what passed where an asking ended with a fault: the text was too long, and nothing was written; nor was it where the
+-- what passed if an asking ended with a fault: the text was too long, and nothing was written; nor was it if the
 -- request was not sent; else some bytes were, up to a write that failed, if one did
 abbrev pub ConveysPartly : Option Place → AskFault → WireLog → WireLog → Type 0
 ConveysPartly plan ask.PlanTooLong old new =
@@ -54,7 +54,7 @@ ConveysPartly plan ask.Request old new =
 ConveysPartly plan ask.Output old new = (mid : WireLog) × HasConveyed plan old mid × (new ≡ write_failed mid)
 ConveysPartly plan fault old new = HasConveyed plan old new
 
--- how the command ends, by where the text is read from: where its socket was not connected to, nothing was read. What a
+-- how the command ends, by where the text is read from: if its socket was not connected to, nothing was read. What a
 -- server said to it is not known, so that what was written are some bytes
 abbrev pub EndsAsk : Option Place → WireLog → WireLog → Result ⊤ CliFault → Type 0
 EndsAsk plan old new (Ok done) = HasConveyed plan old new

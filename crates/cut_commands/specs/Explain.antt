@@ -13,8 +13,8 @@ use Rattle.cut_commands.specs.declared.fault.CliFault.TheVariants.{Memory, Plan,
 abbrev pub IsExplanation : List ℕ → List ℕ → Type 0
 IsExplanation text whole = StartsWith whole (first_line (plan_of text))
 
--- what was written, having read a text: an explanation, at Ok of a plan, and where the fault is that of the text; some
--- first bytes of one where a write failed; and nothing where a read failed, or memory ran out
+-- what was written, having read a text: an explanation, at Ok of a plan, and if the fault is that of the text; some
+-- first bytes of one if a write failed; and nothing if a read failed, or memory ran out
 abbrev pub Explains : List ℕ → Bool → Result ⊤ CliFault → List ℕ → Type 0
 Explains text ended (Ok done) written =
     IsReadThrough TEXT_LIMIT text ended × ((v : Values) × (plan_of text ≡ Ok v)) × IsExplanation text written

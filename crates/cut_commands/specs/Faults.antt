@@ -43,11 +43,11 @@ number_of Checkpoint = codes_of.number_of code.Checkpoint
 number_of WorkMemory = codes_of.number_of code.WorkMemory
 number_of AuditMismatch = codes_of.number_of code.AuditMismatch
 
--- the fault in that list, where it is there
+-- the fault in that list, if it is there
 abbrev pub code_of : CliFault → Option FaultCode
 code_of fault = codes_of.code_numbered (number_of fault)
 
--- its name, `Unknown` where it is not
+-- its name, `Unknown` if it is not
 abbrev pub name_of : CliFault → List ℕ
 name_of fault = codes_of.name_numbered (number_of fault)
 
@@ -78,12 +78,12 @@ fault_text fault = codes "cutlab: fault " ++ (codes_of.text_with (number_of faul
 abbrev pub fault_line : CliFault → List ℕ
 fault_line fault = fault_text fault ++ 10 ∷ []
 
--- the fault of the program where a plan was not made
+-- the fault of the program if a plan was not made
 abbrev pub fault_of_plan : PlanFault → CliFault
 fault_of_plan plan.Memory = Memory
 fault_of_plan (plan.Refused refusal) = Plan refusal
 
--- the fault of the program where a journal was not opened
+-- the fault of the program if a journal was not opened
 abbrev pub fault_of_journal : JournalFault → CliFault
 fault_of_journal journal.Memory = Memory
 fault_of_journal fault = Journal fault
@@ -108,7 +108,7 @@ abbrev pub fault_of_migration : MigrateFault → CliFault
 fault_of_migration migration.Memory = Memory
 fault_of_migration fault = Migrate fault
 
--- the fault of the program where a study was not run to its end
+-- the fault of the program if a study was not run to its end
 abbrev pub fault_of_study : RunFault → CliFault
 fault_of_study (study.BadSlip number) = BadSlip number
 fault_of_study study.Checkpoint = Checkpoint
@@ -116,12 +116,12 @@ fault_of_study (study.Write fault) = Write fault
 fault_of_study study.WorkMemory = WorkMemory
 fault_of_study study.AuditMismatch = AuditMismatch
 
--- the fault of the program where a file was not opened or not read
+-- the fault of the program if a file was not opened or not read
 abbrev pub fault_of_files : OpenFault → CliFault
 fault_of_files files.Memory = Memory
 fault_of_files files.Disk = Journal journal.Disk
 
--- the fault of the program where a checkpoint has no status
+-- the fault of the program if a checkpoint has no status
 abbrev pub fault_of_status : StatusFault → CliFault
 fault_of_status status.Memory = Memory
 fault_of_status status.NoStudy = Journal journal.NoStudy

@@ -38,11 +38,11 @@ IsHeld bytes fault = ⊤
 
 -- ---- from one disk to another
 
--- the slips that a disk says for the plan, where its bytes are known
+-- the slips that a disk says for the plan, if its bytes are known
 abbrev pub Holds : DiskLog → Values → List Slip → Type 0
 Holds old v slips = IsKnown old → reading v (on old).bytes ≡ Ok slips
 
--- a disk that is unclaimed, where its bytes are known
+-- a disk that is unclaimed, if its bytes are known
 abbrev pub IsFree : DiskLog → Type 0
 IsFree new = IsKnown new → is_unclaimed (on new).bytes ≡ true
 

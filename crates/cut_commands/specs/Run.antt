@@ -57,7 +57,7 @@ pub record IsPrefix (task : Task) (v : Values) (written : List ℕ) : Type 0 whe
   pub prefix : written ≡ take count whole
 
 -- what a command wrote that worked on a plan: all of its answer at Ok, and as many of its first bytes as are reported
--- where a write failed; nothing if memory ran out before that, a checkpoint was not opened, a slip of it is bad or its
+-- if a write failed; nothing if memory ran out before that, a checkpoint was not opened, a slip of it is bad or its
 -- slips were not all moved; and some first bytes of its answer where the checkpoint, memory or the audit stopped a
 -- study that had begun, or nothing where memory did so before
 abbrev pub AnswersPlan : Task → Values → Result ⊤ CliFault → List ℕ → Type 0
@@ -74,7 +74,7 @@ AnswersPlan task v (Err Checkpoint) written = task.fails v Checkpoint × IsPrefi
 AnswersPlan task v (Err AuditMismatch) written = task.fails v AuditMismatch × IsPrefix task v written
 AnswersPlan task v (Err fault) written = ⊥
 
--- what it wrote, having read a text: nothing where a read failed, the text or its plan is refused, or memory ran out
+-- what it wrote, having read a text: nothing if a read failed, the text or its plan is refused, or memory ran out
 -- before the plan was there; else what it writes to the plan
 abbrev pub CommandAnswers : Task → List ℕ → Bool → Result ⊤ CliFault → List ℕ → Type 0
 CommandAnswers task text ended (Err Read) written = IsReadPartly TEXT_LIMIT text ended × (written ≡ [])
@@ -103,7 +103,7 @@ pub record EndsWith (answering : List ℕ → Bool → Result ⊤ CliFault → L
   pub log : new ≡ failed_by result (wrote (read_on text ended old) written)
   pub answers : answering text ended result written
 
--- ---- where a plan is read from
+-- ---- if a plan is read from
 
 -- what stands at the path of a plan's file, where one is named; else the plan is read from the wire
 abbrev pub plan_place : (List ℕ → Place) → Option (Bor (List ℕ)) → Option Place

@@ -88,21 +88,21 @@ StoreFails disk v fault = MayEnd fault
 abbrev pub table_task : Option DiskLog → Task
 table_task disk = record { answers = λ v whole. whole ≡ table v; fails = StoreFails disk }
 
--- how a study ends over a disk, by where its plan is read from: by the slips that the disk holds, and by the table of
--- the plan where they are true
+-- how a study ends over a disk, by where its plan is read from: by the slips that the disk holds, and by the table of the
+-- plan if they are true
 pub record RunsFrom (disk : Option DiskLog) (plan : Option Place) (old new : WireLog) (result : Result ⊤ CliFault)
     : Type 0 where
   pub ends : EndsCommandFrom (study_task disk) plan old new result
   pub table : IsTrueStore disk → EndsCommandFrom (table_task disk) plan old new result
 
--- where it is read from the wire
+-- if it is read from the wire
 abbrev pub RunsOn : Option DiskLog → WireLog → WireLog → Result ⊤ CliFault → Type 0
 RunsOn disk old new result = RunsFrom disk None old new result
 
 -- ---- over a file
 
--- how it ends over what stands at a path, by where its plan is read from, and what stands there then: the file was opened, and is not shut; or it was not
--- opened, and nothing was read or written
+-- how it ends over what stands at a path, by where its plan is read from, and what stands there then: the file was opened,
+-- and is not shut; or it was not opened, and nothing was read or written
 abbrev pub EndsStudy : Option Place → Place → Place → WireLog → WireLog → Result ⊤ CliFault → Type 0
 EndsStudy plan place after old new result =
     ((disk : DiskLog) × (OpensAs Create disk place × (after ≡ opened place) × RunsFrom (Some disk) plan old new result))

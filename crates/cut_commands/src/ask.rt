@@ -37,7 +37,7 @@ fn ask_from<F: Files, W: Wire, S: Wire>(
     }
 }
 
-/// Asks, as `ask_io` does, the server whose socket is at a path, for a plan that is read from a wire or a file. Where the
+/// Asks, as `ask_io` does, the server whose socket is at a path, for a plan that is read from a wire or a file. If the
 /// server is not connected to, nothing is read.
 pub fn ask_at<F: Files, W: Wire>(
     host: &HostRuntime,

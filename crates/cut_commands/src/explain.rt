@@ -45,7 +45,7 @@ pub fn explain_from<F: Files, W: Wire, C: CpuClock>(
     }
 }
 
-/// Writes about how long a study takes, after the lines that were written before. It is left out where it can't be had: where
+/// Writes about how long a study takes, after the lines that were written before. It is left out if it can't be had: if
 /// the clock can't be read, or memory runs out.
 fn write_estimate<W: Wire, C: CpuClock>(
     alloc: Global,

@@ -92,8 +92,7 @@ impl CliFault {
         }
     }
 
-    /// The status with which the program ends: 3 where a plan is refused, 5 if memory ran out, and 4 at any other
-    /// fault.
+    /// The status with which the program ends: 3 if a plan is refused, 5 if memory ran out, and 4 at any other fault.
     pub fn status(&self) -> u8
         ensures { result ≡ status_of self.now }
     {

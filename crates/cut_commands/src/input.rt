@@ -38,8 +38,8 @@ impl<'a, F: Files> PlanSource<'a, F> {
 
     /// Reads a plan, as each command does that works on one.
     ///
-    /// Where the text is refused its first fault is returned, where a read of the wire fails Read, and where a file is not
-    /// read the journal's Disk. Of a wire nothing is read where the plan has a file.
+    /// If the text is refused its first fault is returned, if a read of the wire fails Read, and if a file is not read
+    /// the journal's Disk. Of a wire nothing is read if the plan has a file.
     pub fn read_plan<W: Wire>(&self, alloc: Global, wire: &mut W) -> Result<Plan, CliFault>
         ensures { GivesPlanFrom (source_place F.log self.now) result (W.log wire.old) (W.log wire.new) }
     {

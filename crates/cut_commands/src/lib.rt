@@ -2,15 +2,13 @@
 //!
 //! [`run_io`] runs a study and writes its table, over any disk or over none, [`run`] over a file. Of a plan
 //! [`check_io`] writes what it has, [`explain_io`] what is right or wrong with its text, and [`canonical_io`] its
-//! canonical text. [`status`] writes what a checkpoint file holds, [`migrate`]
-//! moves a study of version 1 to its plan's upgrade, and [`ask_io`] asks a server for a table,
-//! [`ask_at`] one at a socket. A [`PlanSource`] says where the plan is read from, be it a file: [`run_from`], [`check_from`],
-//! [`explain_from`], [`canonical_from`] and [`ask_at`] take one. Each ends with its answer or with a [`CliFault`], whose
-//! line and status are those that
-//! the program ends with.
+//! canonical text. [`status`] writes what a checkpoint file holds, [`migrate`] moves a study of version 1 to its plan's
+//! upgrade, and [`ask_io`] asks a server for a table, [`ask_at`] one at a socket. A [`PlanSource`] says where the plan is
+//! read from, be it a file: [`run_from`], [`check_from`], [`explain_from`], [`canonical_from`] and [`ask_at`] take one.
+//! Each ends with its answer or with a [`CliFault`], whose line and status are those that the program ends with.
 //!
-//! What they say of the bytes on a wire is known where its log has them; that a failed read or write is reported
-//! exactly where one failed holds over every wire.
+//! What they say of the bytes on a wire is known if its log has them; that a failed read or write is reported exactly
+//! where one failed holds over every wire.
 #![tactic(auto)]
 
 mod ask;

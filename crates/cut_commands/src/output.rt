@@ -6,7 +6,7 @@ use crate::CliFault;
 use cut_wires::{Wire, send_all};
 use std::alloc::{AllocError, Global};
 
-/// Writes the answer of a command to its wire. Where a write fails, the fault says how many of its bytes were taken.
+/// Writes the answer of a command to its wire. If a write fails, the fault says how many of its bytes were taken.
 pub fn write_answer<W: Wire>(wire: &mut W, answer: &[u8]) -> Result<(), CliFault>
     ensures { IsWritten answer.now result (W.log wire.old) (W.log wire.new) }
 {

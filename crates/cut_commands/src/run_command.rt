@@ -33,19 +33,19 @@ pub struct Work<'a, G> {
 /// Reads a plan from a wire, runs its study, and writes its table to the wire, each line as soon as its cell and those
 /// before it are done.
 ///
-/// With a disk the study is kept there: it goes on from the slips that the disk holds, or begins where it
-/// holds none, and each piece is kept once it is done.
+/// With a disk the study is kept there: it goes on from the slips that the disk holds, or begins where it holds none,
+/// and each piece is kept once it is done.
 ///
 /// For every plan, piece size, number of workers, gate, checkpoint and wire, what the wire took is a prefix of the
-/// plan's table, trial by trial as it is defined: all of it at `Ok`, and exactly as many bytes as are reported
-/// where a write failed. That is the part `table` of the contract, without a disk or over one that is known to hold no study, or
-/// true slips, as those are that this program writes. Over any other disk `ends` says the same of the
-/// table over the slips that were found there.
+/// plan's table, trial by trial as it is defined: all of it at `Ok`, and exactly as many bytes as are reported if a
+/// write failed. That is the part `table` of the contract, without a disk or over one that is known to hold no study,
+/// or true slips, as those are that this program writes. Over any other disk `ends` says the same of the table over the
+/// slips that were found there.
 ///
-/// At most 65,537 bytes are read. Nothing is written at a fault of the reading, the plan, the opening of the
-/// checkpoint or its slips; some first bytes may be written where the checkpoint, memory or the audit stop a
-/// study that has begun. Read comes exactly where a read failed, and Write exactly where a write failed or
-/// took nothing. What is too long or no UTF-8 is refused without memory once it is read.
+/// At most 65,537 bytes are read. Nothing is written at a fault of the reading, the plan, the opening of the checkpoint
+/// or its slips; some first bytes may be written where the checkpoint, memory or the audit stop a study that has begun.
+/// Read comes exactly if a read failed, and Write exactly if a write failed or took nothing. What is too long or no
+/// UTF-8 is refused without memory once it is read.
 pub fn run_io<W, D, G, R>(
     rt: &R,
     alloc: Global,
@@ -64,14 +64,14 @@ where
     run_from(rt, alloc, wire, Study::new(work, disk, source))
 }
 
-/// A study: how it is worked on, the disk that keeps it, if there is one, and where its plan is read from.
+/// A study: how it is worked on, the disk that keeps it, if there is one, and if its plan is read from.
 #[derive(Drop)]
 pub struct Study<'a, G, D, F> {
     /// How it is worked on.
     pub work: Work<'a, G>,
     /// The disk that keeps it.
     pub disk: Option<D>,
-    /// Where its plan is read from.
+    /// If its plan is read from.
     pub source: PlanSource<'a, F>,
 }
 

@@ -1,6 +1,6 @@
--- Reports, full reports and modes of the processes, where a set of edges has been delivered. (The
--- Rapid paper's section on multi-process cut detection; that tallies count distinct rings, and what
--- implicit alerts add, is this project's profile.)
+-- Reports, full reports and modes of the processes, if a set of edges has been delivered. (The Rapid paper's section on
+-- multi-process cut detection; that tallies count distinct rings, and what implicit alerts add, is this project's
+-- profile.)
 use Rattle.std.specs.Prelude.{ℕ, Bool, ◌&&◌, ◌||◌, not, List, count_by, filter, nat_lt, nat_le}
 use Rattle.std.specs.List.{range_with_len, list_any}
 use Rattle.cut_rings.specs.Layout.{Layout, observer_of}

@@ -47,7 +47,7 @@ RepeatsChangeNoMembers =
     (r : Layout) (rule : Rule) (before after : List Edge) (edge : Edge) → Contains before edge →
     members_after r rule (before ++ edge ∷ after) ≡ members_after r rule (before ++ after)
 
--- the proposal with its place one later, where that is after the first n
+-- the proposal with its place one later, if that is after the first n
 abbrev pub delayed : ℕ → Proposal → Proposal
 delayed n p = record { members = p.members; at = if nat_le p.at n then p.at else suc p.at }
 

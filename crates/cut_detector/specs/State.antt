@@ -31,8 +31,8 @@ fresh r rule = record {
   proposal = None;
 }
 
--- a detector without a proposal takes an edge: it counts the delivery, and proposes where the edges
--- that it then has are settled
+-- a detector without a proposal takes an edge: it counts the delivery, and proposes if the edges that it then has are
+-- settled
 pub record TakesEdge (old new : DetectorState) (edge : Edge) : Type 0 where
   pub deliveries : new.deliveries ≡ old.deliveries + 1
   pub edges : (ring subject : ℕ) → ring < old.rule.k → subject < old.layout.nodes → has_edge new ring subject

@@ -28,8 +28,8 @@ pub fn proposes_at_least_place()
     ensures { ProposesAtLeastPlace }
 {}
 
-/// An alert that is delivered again changes no members of the proposal: tallies count distinct rings.
-/// The place is the same where the proposal comes before the repeat, and else the next one.
+/// An alert that is delivered again changes no members of the proposal: tallies count distinct rings. The place is the
+/// same if the proposal comes before the repeat, and else the next one.
 #[tactic(auto, using(crate::proofs::Places::repeats))]
 pub fn repeats_change_no_members()
     ensures members { RepeatsChangeNoMembers }
@@ -47,8 +47,8 @@ pub fn equal_watermarks()
     ensures first { ProposesAtFirstStable }
 {}
 
-/// Where all alerts are about some targets, and at least H rings report each of them, exactly the
-/// targets are stable and no process is unstable, with implicit alerts and without.
+/// If all alerts are about some targets, and at least H rings report each of them, exactly the targets are stable and
+/// no process is unstable, with implicit alerts and without.
 #[tactic(auto, using(crate::proofs::Modes::targets))]
 pub fn targets_alone()
     ensures stable { StableAreTargets }
@@ -81,8 +81,8 @@ pub fn more_edges_only_add()
     ensures stable { MoreEdgesKeepStable }
 {}
 
-/// A process is unstable exactly where it is reported on at least L rings and isn't stable: what it gains from
-/// implicit alerts it gains only then.
+/// A process is unstable exactly if it is reported on at least L rings and isn't stable: what it gains from implicit
+/// alerts it gains only then.
 #[tactic(auto, using(crate::proofs::Growing::unstable_by_reported))]
 pub fn unstable_are_reported_and_not_stable()
     ensures { UnstableAreReportedAndNotStable }

@@ -77,7 +77,7 @@ fn is_row(alloc: Global, rings: &Rings, line: &str, row: &str) -> Result<bool, R
     Ok(are_alerts(alloc, rings, &roles, wanted)?)
 }
 
-// How many rows stand below a line of roles, 0 where the alerted edges of one are others.
+// How many rows stand below a line of roles, 0 if the alerted edges of one are others.
 fn count_rows(alloc: Global, rings: &Rings, text: &str) -> Result<u32, RolesFault> {
     let (line, rows) = text.split_once('\n').unwrap_or((text, ""));
     let mut count = 0u32;

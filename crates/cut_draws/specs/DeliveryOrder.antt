@@ -59,5 +59,5 @@ pub record IsDeliveryOrder (d : Source) (receiver k : ℕ) (edges : List Edge) (
   pub prefixes : (n : ℕ) → first_of (map (λ x. x.edge) order) n ≡ early d receiver k edges copies n
   -- there are as many as copies of all edges
   pub count : length order ≡ copies * length edges
-  -- its edges are of the first k rings and of n processes where all given edges are
+  -- its edges are of the first k rings and of n processes if all given edges are
   pub still_within : (n : ℕ) → IsTrue (are_edges_of k n edges) → IsTrue (are_edges_of k n (map (λ x. x.edge) order))

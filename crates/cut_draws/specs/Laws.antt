@@ -49,7 +49,7 @@ DeliveriesAreCountedByCopies =
 
 -- ---- when an edge comes first
 
--- the least that a function gives of the copies of an edge, and `end` where the edge isn't given or there is no copy
+-- the least that a function gives of the copies of an edge, and `end` if the edge isn't given or there is no copy
 abbrev pub least_of_copies : List Edge → ℕ → ℕ → (Delivery → ℕ) → ℕ → ℕ → ℕ
 least_of_copies edges copies end f ring subject =
     if set_of edges ring subject then
@@ -61,7 +61,7 @@ least_of_copies edges copies end f ring subject =
 abbrev pub time_of : Source → ℕ → ℕ → List Edge → ℕ → Delivery → ℕ
 time_of d receiver k edges copies x = delivery_rank d receiver k edges copies x + 1
 
--- when the first copy of an edge comes; one more than the number of deliveries where none does
+-- when the first copy of an edge comes; one more than the number of deliveries if none does
 abbrev pub first_time : Source → ℕ → ℕ → List Edge → ℕ → ℕ → ℕ → ℕ
 first_time d receiver k edges copies =
     least_of_copies edges copies (copies * length edges + 1) (time_of d receiver k edges copies)
@@ -101,7 +101,7 @@ abbrev pub come_by_image : Source → ℕ → ℕ → List Edge → ℕ → ℕ 
 come_by_image d receiver k edges copies w =
     count_by (λ x. nat_le (image_of d receiver k x) w) (all_deliveries edges copies)
 
--- the least image of an edge's copies, and `last` where none comes
+-- the least image of an edge's copies, and `last` if none comes
 abbrev pub least_image : Source → ℕ → ℕ → List Edge → ℕ → ℕ → ℕ → ℕ → ℕ
 least_image d receiver k edges copies last = least_of_copies edges copies last (image_of d receiver k)
 

@@ -114,7 +114,7 @@ impl fmt::Display for Amount {
     }
 }
 
-/// Estimates how long a processor works for the trials of a plan. It is `None` where the clock can't be read.
+/// Estimates how long a processor works for the trials of a plan. It is `None` if the clock can't be read.
 ///
 /// It runs pieces of trials in cells that are spread evenly over the plan, for about a second, and takes the time of a
 /// trial to be the mean over them. A piece after which a larger one is run is left out, and so is the first: what a
@@ -172,7 +172,7 @@ impl Samples {
     }
 }
 
-/// Runs pieces of trials for about a second, or all trials where they take less. `None` where the clock can't be read.
+/// Runs pieces of trials for about a second, or all trials where they take less. `None` if the clock can't be read.
 fn run_samples<C: CpuClock>(
     alloc: Global,
     clock: &C,
@@ -222,7 +222,7 @@ fn sample_piece(plan: &Plan, number: u32, count: u32) -> Piece {
     Piece { first, count }
 }
 
-/// How long a piece of trials takes. `None` where the clock can't be read.
+/// How long a piece of trials takes. `None` if the clock can't be read.
 fn time_piece<C: CpuClock>(
     alloc: Global,
     clock: &C,

@@ -23,8 +23,8 @@ pub record FaultRow : Type 0 where
 abbrev pub row : ℕ → List ℕ → ℕ → FaultRow
 row number name status = record { number = number; name = name; status = status }
 
--- the list. A command ends with 3 where a plan was refused, with 5 if memory ran out, and with 4 at any other fault.
--- Two faults, of a call and of a running study, both say that memory ran out
+-- the list. A command ends with 3 if a plan was refused, with 5 if memory ran out, and with 4 at any other fault. Two
+-- faults, of a call and of a running study, both say that memory ran out
 abbrev pub row_of : FaultCode → FaultRow
 row_of Memory = row 0 (codes "Memory") 5
 row_of NotJson = row 1 (codes "NotJson") 3

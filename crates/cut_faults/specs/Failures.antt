@@ -5,7 +5,7 @@ use Rattle.std.specs.Prelude.{◌≡◌, ℕ, ◌+◌, ◌-◌, ◌^◌, ◌<◌
 abbrev pub one_more : ℕ → ℕ
 one_more n = min (n + 1) (2 ^ 64 - 1)
 
--- the count after a call: one more exactly where the call failed
+-- the count after a call: one more exactly if the call failed
 abbrev pub counted : {T E : Type 0} → Result T E → ℕ → ℕ
 counted (Ok x) n = n
 counted (Err e) n = one_more n

@@ -119,8 +119,8 @@ impl FaultRow {
 }
 
 impl FaultCode {
-    /// The fault's row of the list. A command ends with 3 where a plan was refused, with 5 if memory ran out, and with
-    /// 4 at any other fault.
+    /// The fault's row of the list. A command ends with 3 if a plan was refused, with 5 if memory ran out, and with 4
+    /// at any other fault.
     fn row(self) -> FaultRow
         ensures number { result.number ≡ number_of self }
         ensures name { result.name.now ≡ name_of self }

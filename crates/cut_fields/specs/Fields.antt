@@ -74,19 +74,19 @@ is_of Numbers d = is_some (as_array d) && list_all (λ x. is_some (whole_number 
 is_of Text d = is_some (as_str d)
 is_of Truth d = is_some (as_bool d)
 
--- the value of a field, null where it is missing
+-- the value of a field, null if it is missing
 abbrev pub member_at : Data → Field → Data
 member_at d field = unwrap_or (get (name_of field) d) null
 
--- the number in a value, 0 where it is of another kind
+-- the number in a value, 0 if it is of another kind
 abbrev pub number_in : Data → ℕ
 number_in d = unwrap_or (whole_number d) 0
 
--- the numbers in a value, none where it is of another kind
+-- the numbers in a value, none if it is of another kind
 abbrev pub numbers_in : Data → List ℕ
 numbers_in d = map number_in (elements d)
 
--- the text in a value, the empty one where it is of another kind
+-- the text in a value, the empty one if it is of another kind
 abbrev pub text_in : Data → List ℕ
 text_in d = unwrap_or (as_str d) []
 

@@ -17,7 +17,7 @@ use Rattle.cut_fields.specs.Fields.{text_in}
 abbrev pub keys : Data → List (List ℕ)
 keys d = keys_of_members (unwrap_or (as_object d) no_members)
 
--- the truth value in a value, false where it is of another kind
+-- the truth value in a value, false if it is of another kind
 abbrev pub truth_in : Data → Bool
 truth_in d = unwrap_or (as_bool d) false
 
@@ -45,7 +45,7 @@ is_present d field = is_some (get (name_of field) d)
 abbrev pub is_of_kind : Data → Field → Bool
 is_of_kind d field = is_of (kind_of field) (member_at d field)
 
--- the version by whose fields an object is checked: 2 where its version is the whole number 2, and else 1
+-- the version by whose fields an object is checked: 2 if its version is the whole number 2, and else 1
 abbrev pub version_in : Data → Version
 version_in d = version_by (number_at d field.Version)
 

@@ -21,8 +21,8 @@ pub data Place : Type 0 where
 abbrev pub new_file : DiskLog
 new_file = record { state = Some (fresh []); failed = 0 }
 
--- what stands at a path opens as a disk with this log. An existing file has the log that it had. A file is created
--- where nothing is, but only by `Create`. What can't be opened, or is open already, is never opened
+-- what stands at a path opens as a disk with this log. An existing file has the log that it had. A file is created if
+-- nothing is, but only by `Create`. What can't be opened, or is open already, is never opened
 abbrev pub OpensAs : Mode → DiskLog → Place → Type 0
 OpensAs mode disk Unknown = ⊤
 OpensAs Existing disk Absent = ⊥

@@ -5,7 +5,7 @@ ghost use Rattle.cut_files.specs.Place.{new_file};
 use cut_disks::{Disk, FaultyDisk, MemoryDisk, Tear};
 use std::alloc::{AllocError, Global};
 
-/// A disk in memory: it is made where a file is made, and its bytes can be looked at without a call of it.
+/// A disk in memory: it is made if a file is made, and its bytes can be looked at without a call of it.
 pub trait InMemory: Disk {
     /// The disk of a file that was just made.
     fn empty(alloc: Global) -> Result<Self, AllocError>

@@ -190,7 +190,7 @@ fn finding_in_seed(value: &Value) -> Option<Finding<'_>> {
     Some(Finding::Character(index.saturating_add(1)))
 }
 
-/// Where a list does not rise, if the rule asks for one.
+/// If a list does not rise, if the rule asks for one.
 fn fall_in<'a>(rule: FieldRule, value: &'a Value) -> Option<Finding<'a>> {
     let items = value.as_array()?.as_slice();
     if !rule.is_of_list() {

@@ -5,7 +5,7 @@ use cut_plan::{Field, MOST_CELLS};
 use serde_json::Value;
 use std::alloc::AllocError;
 
-/// Lists the limits that a plan's fields break together. A limit is passed over where a field that it is on is wrong
+/// Lists the limits that a plan's fields break together. A limit is passed over if a field that it is on is wrong
 /// alone.
 pub(crate) fn list_joint(out: &mut String, value: &Value) -> Result<(), AllocError> {
     let combinations = match lists_in(value) {
@@ -53,7 +53,7 @@ impl Lists<'_> {
     }
 }
 
-/// The three lists, where nothing is wrong with them.
+/// The three lists, if nothing is wrong with them.
 fn lists_in(value: &Value) -> Option<Lists<'_>> {
     let lists = Lists {
         k: sound_items(value, Field::K),
@@ -74,7 +74,7 @@ fn sound_items(value: &Value, field: Field) -> &[Value] {
     }
 }
 
-/// The number that a value is, 0 where it is none.
+/// The number that a value is, 0 if it is none.
 fn number_in(value: &Value) -> u64 {
     value.as_u64().unwrap_or(0)
 }
@@ -112,7 +112,7 @@ fn push_no_cell(out: &mut String, lists: &Lists<'_>) -> Result<(), AllocError> {
     writeln!(out, "; expected some l <= h <= k")
 }
 
-/// Adds that the faults are more than the processes, where they are.
+/// Adds that the faults are more than the processes, if they are.
 fn push_faults(out: &mut String, value: &Value) -> Result<(), AllocError> {
     let (Some(liars), Some(links), Some(nodes)) = (
         sound_value(value, Field::Liars).and_then(Value::as_u64),

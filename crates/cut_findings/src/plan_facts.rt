@@ -4,7 +4,7 @@ use cut_outcome::quorum;
 use cut_plan::{Plan, Version};
 use std::alloc::{AllocError, Global};
 
-/// How many trials a piece has where nothing else is asked for.
+/// How many trials a piece has if nothing else is asked for.
 const PIECE: u32 = 16;
 
 /// Adds the numbers of a plan's cells and trials, its quorum, the values that stand in no cell, in how many cells no
@@ -61,8 +61,8 @@ fn has_between(numbers: &[u8], least: u8, most: u8) -> bool {
         .any(|number| least <= *number && *number <= most)
 }
 
-/// Says in how many cells no trial is right, whatever is drawn: where none fails, for each proposal has a member; with
-/// l = h each proposal has only one, so that none has all failed ones where two fail or more; and where more fail than a
+/// Says in how many cells no trial is right, whatever is drawn: if none fails, for each proposal has a member; with l =
+/// h each proposal has only one, so that none has all failed ones where two fail or more; and if more fail than a
 /// quorum can lack, nothing is decided.
 fn count_never_right(out: &mut String, plan: &Plan) -> Result<(), AllocError> {
     let cells = plan.cells();
@@ -126,7 +126,7 @@ fn most_keys(plan: &Plan) -> u64 {
     keys.saturating_mul(u64::from(plan.repeats()))
 }
 
-/// How many alerts there are on one ring, at most, where this number of processes fails. Of two processes each observes
+/// How many alerts there are on one ring, at most, if this number of processes fails. Of two processes each observes
 /// the other, so that there are two alerts for a link that is cut between them.
 fn most_alerts(plan: &Plan, failed: u16) -> u64 {
     let nodes = u64::from(plan.nodes());

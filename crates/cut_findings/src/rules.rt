@@ -23,7 +23,7 @@ pub(crate) const FIELDS: [Field; 15] = [
     Field::Version,
 ];
 
-/// The version by whose fields a JSON value is read: 2 where its `version` is 2, and else 1.
+/// The version by whose fields a JSON value is read: 2 if its `version` is 2, and else 1.
 pub(crate) fn version_of(value: &Value) -> Version {
     match value.get(Field::Version.name()).and_then(Value::as_u64) {
         Some(2) => Version::Two,

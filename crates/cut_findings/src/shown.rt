@@ -34,7 +34,7 @@ impl fmt::Display for Shown<'_> {
     }
 }
 
-/// A text as it is printed within a line: in double quotes, cut where it is long. Quotes, backslashes and all that is not
+/// A text as it is printed within a line: in double quotes, cut if it is long. Quotes, backslashes and all that is not
 /// printable ASCII are escaped, so that no text looks like another or like the end of a line.
 #[derive(Clone, Copy)]
 pub(crate) struct Quoted<'a>(pub(crate) &'a str);

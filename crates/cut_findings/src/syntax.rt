@@ -4,7 +4,7 @@ use serde_json::{Error, Value};
 use std::alloc::{AllocError, Global};
 use std::fmt;
 
-/// What is seen where a text is no JSON.
+/// What is seen if a text is no JSON.
 #[derive(Clone, Copy)]
 enum Mistake {
     Empty,
@@ -107,13 +107,13 @@ impl fmt::Display for Place {
     }
 }
 
-/// Says where a text is no UTF-8: after this number of bytes.
+/// Says if a text is no UTF-8: after this number of bytes.
 pub(crate) fn explain_bytes(out: &mut String, text: &[u8], at: usize) -> Result<(), AllocError> {
     let place = Place::of_byte(text, at);
     writeln!(out, "{place}: the byte here is no UTF-8")
 }
 
-/// Says where a text is no JSON, by the error of the reader, and what stands there.
+/// Says if a text is no JSON, by the error of the reader, and what stands there.
 pub(crate) fn explain_syntax(
     alloc: Global,
     out: &mut String,

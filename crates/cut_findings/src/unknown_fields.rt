@@ -23,7 +23,7 @@ pub(crate) fn list_unknown(
     Ok(())
 }
 
-/// Adds that a field is one of the other version, where it is.
+/// Adds that a field is one of the other version, if it is.
 fn push_other_version(out: &mut String, field: Field, version: Version) -> Result<(), AllocError> {
     if is_field_of(version, field) {
         return Ok(());

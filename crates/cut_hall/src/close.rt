@@ -19,12 +19,11 @@ struct EndedSlots<K: CallLedger> {
 }
 
 impl<D: Disk + Drop, M: CallLedger, K: CallLedger> Hall<D, M, K> {
-    /// Ends the hall, which takes all its passes, and reports what became of each slot. The calls that the
-    /// slots' histories have together are as many as the passes made together, and what the passes counted of
-    /// a study is what its history accepted; where these differ, that is reported, with what became of all slots. Of
-    /// a hall that was made of a book the one slot's history begins with what that book was opened with.
-    /// Where passes are missing, the hall and these passes come back as they were; where it is refused otherwise,
-    /// they don't.
+    /// Ends the hall, which takes all its passes, and reports what became of each slot. The calls that the slots'
+    /// histories have together are as many as the passes made together, and what the passes counted of a study is what
+    /// its history accepted; if these differ, that is reported, with what became of all slots. Of a hall that was made
+    /// of a book the one slot's history begins with what that book was opened with. Where passes are missing, the hall
+    /// and these passes come back as they were; if it is refused otherwise, they don't.
     pub fn close(
         self,
         alloc: Global,

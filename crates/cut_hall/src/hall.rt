@@ -75,7 +75,7 @@ impl<D: Disk, M: CallLedger, K: CallLedger> Model for Hall<D, M, K> {
 }
 
 impl<D: Disk + Drop, K: CallLedger> LockedSlot<D, K> {
-    /// The place of a slot, where no worker has been yet.
+    /// The place of a slot, if no worker has been yet.
     fn new(slot: Slot<D, K>) -> LockedSlot<D, K> {
         LockedSlot {
             slot: Mutex::new(slot),
@@ -160,8 +160,8 @@ impl<D: Disk + Drop, M: CallLedger, K: CallLedger> Hall<D, M, K> {
         Ok((hall, given))
     }
 
-    /// Gives a plan's study a slot: that which it has already, or else the next that is free, for which its
-    /// disk comes from the shelf. Where it is refused no slot is taken.
+    /// Gives a plan's study a slot: that which it has already, or else the next that is free, for which its disk comes
+    /// from the shelf. If it is refused no slot is taken.
     pub fn submit<S: Shelf<D>, R: Wait>(
         &self,
         rt: &R,
@@ -276,7 +276,7 @@ impl<D: Disk + Drop, M: CallLedger, K: CallLedger> Hall<D, M, K> {
         unreachable!()
     }
 
-    /// Where a slot's calls are counted: in the hall's accounts, under their lock.
+    /// If a slot's calls are counted: in the hall's accounts, under their lock.
     pub(crate) fn counter<'a, R: Wait>(&'a self, rt: &'a R) -> LockedAccounts<'a, M, K, R> {
         LockedAccounts {
             rt,

@@ -66,12 +66,12 @@ impl SharedInput {
 }
 
 impl<D: Disk + Drop, M: CallLedger, K: CallLedger> Hall<D, M, K> {
-    /// Works on the studies in the order of their slots, on each as long as pieces of it can be drawn, and then
-    /// waits for the next. Each piece is drawn, runs once the gate lets it pass, and is handed in; an accepted
-    /// one is counted on the board. A piece for which memory runs out twice, or for the result of which it does, is
-    /// lost, and a study whose disk has failed is left.
+    /// Works on the studies in the order of their slots, on each as long as pieces of it can be drawn, and then waits
+    /// for the next. Each piece is drawn, runs once the gate lets it pass, and is handed in; an accepted one is counted
+    /// on the board. A piece for which memory runs out twice, or for the result of which it does, is lost, and a study
+    /// whose disk has failed is left.
     ///
-    /// It returns after `stop`, and where nothing more can be drawn by this pass, or counted by the hall.
+    /// It returns after `stop`, and if nothing more can be drawn by this pass, or counted by the hall.
     pub fn work<R: Wait, G: Gate>(&self, rt: &R, alloc: Global, pass: &mut Pass<M>, gate: &G)
         requires { pass.old.hall ≡ self.now.id }
         ensures own { pass.new.hall ≡ pass.old.hall }
@@ -87,8 +87,7 @@ impl<D: Disk + Drop, M: CallLedger, K: CallLedger> Hall<D, M, K> {
 
     /// Works on the pieces of one study until none are left to be drawn, as `work` does on each, for a caller that
     /// gives its thread for as long. In a slot without a study it does nothing. Returns whether it may go on with
-    /// another study: not after `stop`, nor where
-    /// nothing more can be drawn by this pass, or counted by the hall.
+    /// another study: not after `stop`, nor if nothing more can be drawn by this pass, or counted by the hall.
     pub fn work_off<R: Wait, G: Gate>(
         &self,
         rt: &R,
@@ -220,8 +219,8 @@ impl<D: Disk + Drop, M: CallLedger, K: CallLedger> Hall<D, M, K> {
         shared.input.get()
     }
 
-    /// Hands a result in, or returns how the worker goes on where it is not accepted. Where it is, its trials are
-    /// counted before the lock is given back. A study whose disk has failed takes no more, so the worker leaves it.
+    /// Hands a result in, or returns how the worker goes on if it is not accepted. If it is, its trials are counted
+    /// before the lock is given back. A study whose disk has failed takes no more, so the worker leaves it.
     fn hand_in<R: Wait>(
         &self,
         rt: &R,
@@ -244,8 +243,8 @@ impl<D: Disk + Drop, M: CallLedger, K: CallLedger> Hall<D, M, K> {
     }
 
     /// Gives a piece of a study up, by its number from 0 in the study's division, as a worker does where memory for it
-    /// is refused: whoever asks for the line of its cell gets that fault, where the cell is not done. Returns whether
-    /// it is noted, which is a call of the pass: not if there is no study or no such piece, or it was given up before.
+    /// is refused: whoever asks for the line of its cell gets that fault, if the cell is not done. Returns whether it
+    /// is noted, which is a call of the pass: not if there is no study or no such piece, or it was given up before.
     pub fn give_up<R: Wait>(&self, rt: &R, pass: &mut Pass<M>, study: u32, piece: u64) -> bool
         requires own { pass.old.hall ≡ self.now.id }
         requires slot { study < self.now.slots }

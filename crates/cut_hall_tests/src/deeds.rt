@@ -74,7 +74,7 @@ impl Shelf<FaultyDisk> for Foul {
 pub(crate) enum Deed {
     /// Nothing more.
     Submit,
-    /// Works until a cell is done, and asks for its line, twice where it comes.
+    /// Works until a cell is done, and asks for its line, twice if it comes.
     Row(u32),
     /// Waits for the line of a cell.
     Wait(u32),
@@ -186,7 +186,7 @@ impl<M: CallLedger, K: CallLedger, R: Wait> Guest<'_, M, K, R> {
         }
     }
 
-    /// Works on an opened study until a cell is done, and asks for its line, twice where it comes.
+    /// Works on an opened study until a cell is done, and asks for its line, twice if it comes.
     fn make_row(&self, pass: &mut Pass<M>, opened: &Opened, study: Study, cell: u32) -> End
         requires own { pass.old.hall ≡ self.now.hall.now.id }
         requires slot { opened.now.study < self.now.hall.now.slots }

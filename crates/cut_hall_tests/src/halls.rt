@@ -58,7 +58,7 @@ struct Scene {
     report: (u64, u64, bool),
 }
 
-/// What another hall opens for a study where its disk has the slip of the first trial, this many times.
+/// What another hall opens for a study if its disk has the slip of the first trial, this many times.
 fn opened_elsewhere(alloc: Global, study: Study, slips: usize) -> Option<Opened> {
     let kept = vec![in alloc; FIRST_SLIP; slips].ok()?;
     let plan = Plan::from_json(alloc, study.plan.as_bytes()).ok()?;

@@ -14,7 +14,7 @@ fn only_slot(report: &Report) -> Option<(u64, u64, bool)> {
     Some((slot.accepted(), slot.calls(), slot.complete()))
 }
 
-/// Closes a hall without one of its passes, and then with all: what is reported of its only slot. `None` where it is not
+/// Closes a hall without one of its passes, and then with all: what is reported of its only slot. `None` if it is not
 /// given back at first.
 fn close_twice<M: CallLedger, K: CallLedger>(
     alloc: Global,

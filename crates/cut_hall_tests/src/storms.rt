@@ -152,7 +152,7 @@ impl Shared {
 trait Arena<M: CallLedger> {
     ghost id_of: { Self → TableId };
 
-    /// Does the deeds of the next thread. Where it is the last one that is no worker, it ends the work.
+    /// Does the deeds of the next thread. If it is the last one that is no worker, it ends the work.
     fn play_next<R: Wait>(&self, rt: &R, alloc: Global, shared: &Shared, pass: &mut Pass<M>)
         requires { pass.old.hall ≡ id_of self.now }
         ensures { pass.new.hall ≡ id_of self.now };
@@ -283,8 +283,8 @@ fn slots_of<M: CallLedger, K: CallLedger, R: Wait>(
     Ok(slots)
 }
 
-/// Whether of each slot no more trials were accepted than its study has, and all exactly where it is
-/// complete, as it is after a calm storm.
+/// Whether of each slot no more trials were accepted than its study has, and all exactly if it is complete, as it is
+/// after a calm storm.
 fn is_right(report: &Report, slots: &[(u32, u64)], is_calm: bool) -> bool {
     slots.iter().all(|(slot, trials)| {
         match report.slots().get(*slot as usize) {
@@ -314,7 +314,7 @@ where
     play_timed(Tools { rt, alloc }, hall, shared, passes, &mut keep);
 }
 
-/// How the deeds of a storm ended, where its hall was closed as is right.
+/// How the deeds of a storm ended, if its hall was closed as is right.
 fn run_storm<M, K, R>(
     rt: &R,
     alloc: Global,

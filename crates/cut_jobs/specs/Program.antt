@@ -17,8 +17,8 @@ use Rattle.cut_commands.specs.declared.fault.CliFault.TheVariants.{Memory, Write
 use Rattle.cut_jobs.specs.Jobs.{EndsJob, PrintsOn, TellsRefused}
 use Rattle.cut_jobs.specs.Sending.{IsCutShort, IsSent}
 
--- how the end of a command is reported on the errors and by the status: nothing and 0 where it was done, else
--- the fault's line and status
+-- how the end of a command is reported on the errors and by the status: nothing and 0 if it was done, else the fault's
+-- line and status
 abbrev pub ReportsEnd : Result ⊤ CliFault → WireLog → WireLog → ℕ → Type 0
 ReportsEnd (Ok done) old new status = (new ≡ old) × (status ≡ 0)
 ReportsEnd (Err fault) old new status = IsSent (fault_line fault) old new × (status ≡ status_of fault)
@@ -59,8 +59,8 @@ EndsProgram words before after old new errors_old errors_new status =
     ⊎ ((kind : ErrorKind) × (text : List ℕ) × IsAsked words kind × (kind ≡ OutOfMemory → text ≡ []) × (after ≡ before)
     × ReportsLine (status_of_kind kind) text old new errors_old errors_new status)
 
--- how it is reported where the words themselves can't be read: one that is not UTF-8 is a mistake in them, else memory
--- ran out
+-- how it is reported if the words themselves can't be read: one that is not UTF-8 is a mistake in them, else memory ran
+-- out
 abbrev pub ReportsUnread : io.ErrorKind → WireLog → WireLog → ℕ → Type 0
 ReportsUnread InvalidData old new status =
     IsSent (codes "error: a word of the command line is not UTF-8" ++ 10 ∷ []) old new × (status ≡ 2)

@@ -23,8 +23,8 @@ letter_of c =
     cond (c == 34) 34 (cond (c == 92) 92 (cond (c == 0) 48 (cond (c == 9) 116 (cond (c == 10) 110
     (cond (c == 13) 114 0)))))
 
--- the bytes of a character between the quotes: a backslash and its letter, its code in hex as `\u{1b}` where it is
--- hidden, or the character as it is
+-- the bytes of a character between the quotes: a backslash and its letter, its code in hex as `\u{1b}` if it is hidden,
+-- or the character as it is
 abbrev pub quoted_char : ℕ → List ℕ
 quoted_char c =
     cond (nat_lt 0 (letter_of c)) (backslash ∷ letter_of c ∷ [])

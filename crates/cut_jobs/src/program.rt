@@ -22,9 +22,9 @@ const UNREADABLE_LINE: &[u8] = b"error: a word of the command line is not UTF-8\
 /// it ends.
 ///
 /// A command reads its plan from `wire`, or from a file that is named, and writes its answer to `wire`; its fault is
-/// one line on `errors`, from which nothing is read, after the lines of progress, or that of a refused file, where
-/// these are asked for. Help goes to `wire`, what is wrong with the words to `errors`, both as clap writes them. The
-/// files of plans and checkpoints are those of `files`, except for those of a server, which are the system's.
+/// one line on `errors`, from which nothing is read, after the lines of progress, or that of a refused file, if these
+/// are asked for. Help goes to `wire`, what is wrong with the words to `errors`, both as clap writes them. The files of
+/// plans and checkpoints are those of `files`, except for those of a server, which are the system's.
 pub fn run_words<F, R, S, W, E>(
     files: &mut F,
     system: &System<'_, R>,
@@ -89,7 +89,7 @@ fn end_line<W: Wire, E: Wire>(fault: &LineFault, wire: &mut W, errors: &mut E) -
     fault.status
 }
 
-/// Ends where the words can't be read: one of them is not UTF-8, or memory for them was refused.
+/// Ends if the words can't be read: one of them is not UTF-8, or memory for them was refused.
 pub fn end_unread<E: Wire>(kind: ErrorKind, errors: &mut E) -> u8
     ensures { ReportsUnread kind (E.log errors.old) (E.log errors.new) result }
 {

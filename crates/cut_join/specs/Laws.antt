@@ -33,7 +33,7 @@ abbrev pub JoinedGiveThePlansTable : Type 0
 JoinedGiveThePlansTable =
     (v : Values) (ss : List Slip) → IsPlan v → AreTrue v ss → table_over v (joined v ss) ≡ table v
 
--- a slip that begins where another ends, or later; and where it goes on from there, it is of another cell
+-- a slip that begins where another ends, or later; and if it goes on from there, it is of another cell
 abbrev pub IsApartFrom : Values → Slip → Slip → Type 0
 IsApartFrom v s next =
     (s.piece.first + s.piece.count ≤ next.piece.first)

@@ -60,7 +60,7 @@ fn merged(alloc: Global, plan: &Plan, slips: &[Slip]) -> Result<Vec<Slip>, Alloc
     Ok(merged)
 }
 
-/// Adds a slip after others: to the last of them where it goes on from there, and else as one of its own.
+/// Adds a slip after others: to the last of them if it goes on from there, and else as one of its own.
 fn add(merged: &mut Vec<Slip>, plan: &Plan, slip: Slip) -> Result<(), AllocError>
     requires others { All (IsSmall plan.now) merged.old.items }
     requires slip { IsSmall plan.now slip }

@@ -18,9 +18,9 @@ use std::alloc::Global;
 /// Appends the slips of a plan to its journal, joined: one for each greatest run of adjacent trials of a cell that some
 /// slip has, in ascending order, with the sums of the slips in it. Returns how many it wrote, which are all.
 ///
-/// It is refused before any write where a slip is one that no ledger begins with, after those before it, and then where
-/// the journal is of another plan. Memory runs out only before the first write. After that a broken journal ends it, or
-/// a disk that fails: the joined slips before the present one are kept then, and the present one may be kept too.
+/// It is refused before any write if a slip is one that no ledger begins with, after those before it, and then if the
+/// journal is of another plan. Memory runs out only before the first write. After that a broken journal ends it, or a
+/// disk that fails: the joined slips before the present one are kept then, and the present one may be kept too.
 ///
 /// Each slip is one append. So a crash at any moment leaves the slips that were acknowledged by then, and at most one
 /// more.

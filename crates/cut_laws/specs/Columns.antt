@@ -8,13 +8,13 @@ use Rattle.cut_outcome.specs.Sum.{sum_of}
 
 -- ---- who can decide
 
--- where more processes fail or are silent than a quorum can lack, no trial is decided
+-- if more processes fail or are silent than a quorum can lack, no trial is decided
 abbrev pub TooFewVotersDecideNothing : Type 0
 TooFewVotersDecideNothing =
     (v : Values) (t : ℕ) → 1 ≤ v.nodes → (v.nodes - 1) / 4 < (cell_at v t).f + (outcome v t).silent →
     (outcome v t).decided ≡ 0
 
--- so where more than these fail, none of any trials is decided, or right
+-- so if more than these fail, none of any trials is decided, or right
 pub record NoneIsDecided (x : Totals) : Type 0 where
   pub decided : x.decided ≡ 0
   pub right : x.right ≡ 0
@@ -38,7 +38,7 @@ pub record IsRightByVerdicts (v : Values) (x : Totals) : Type 0 where
 abbrev pub TrialsAreRightByVerdicts : Type 0
 TrialsAreRightByVerdicts = (v : Values) (t : ℕ) → IsRightByVerdicts v (outcome v t)
 
--- so where none proposes another process, a trial is right exactly where a quorum is neither silent nor a conflict
+-- so where none proposes another process, a trial is right exactly if a quorum is neither silent nor a conflict
 abbrev pub RightWithoutExtra : Type 0
 RightWithoutExtra =
     (v : Values) (t : ℕ) → (outcome v t).extra ≡ 0 →
@@ -83,7 +83,7 @@ SumsAreRightUnlessLost =
     (v : Values) (f : ℕ) (ts : List ℕ) → All (λ t. (cell_at v t).f ≡ f) ts →
     IsRightUnlessLost v.nodes f (length ts) (sum_of v ts)
 
--- ---- where nothing fails
+-- ---- if nothing fails
 
 -- no receiver is a conflict, and each that proposes names a process that has not failed
 pub record HasNoTargets (x : Totals) : Type 0 where

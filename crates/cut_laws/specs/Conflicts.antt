@@ -58,7 +58,7 @@ pub record AreReportedOnce (r : Layout) (k : ℕ) (is_target : ℕ → Bool) (ed
   pub once : (ring s : ℕ) → ring < k → s < r.nodes →
       count_by (λ e. is_edge ring s e) edges ≡ (if is_target s then 1 else 0)
 
--- then an order ends in a conflict by H and L exactly where its reverse does by K + 1 - L and K + 1 - H
+-- then an order ends in a conflict by H and L exactly if its reverse does by K + 1 - L and K + 1 - H
 abbrev pub ReversesHaveDualWatermarks : Type 0
 ReversesHaveDualWatermarks =
     (r : Layout) (k h l : ℕ) (is_target : ℕ → Bool) (edges : List Edge) → 1 ≤ l → l ≤ h → h ≤ k →

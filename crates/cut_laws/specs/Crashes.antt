@@ -35,7 +35,7 @@ abbrev pub NoneAreRaisedAboutOthers : Type 0
 NoneAreRaisedAboutOthers =
     (v : Values) (t s : ℕ) → OnlyCrashes v → ¬ IsTrue (is_target (roles_at v t) s) → raised_about v t s ≡ 0
 
--- where some process has crashed, and on enough rings alerts are raised about each that has, no receiver is silent
+-- if some process has crashed, and on enough rings alerts are raised about each that has, no receiver is silent
 abbrev pub EnoughAlertsLeaveNoneSilent : Type 0
 EnoughAlertsLeaveNoneSilent =
     (v : Values) (t : ℕ) → IsPlan v → t < trial_count v → OnlyCrashes v → 1 ≤ (cell_at v t).f →

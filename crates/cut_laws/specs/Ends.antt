@@ -16,7 +16,7 @@ OnlyWhoEndsStableIsProposed =
     (v : Values) (t j : ℕ) →
     IfSome (proposed_at v t j) (λ p. (s : ℕ) → Contains p.members s → (s < v.nodes) × IsTrue (ends_stable v t s))
 
--- so where some target isn't, every receiver that proposes is a conflict
+-- so if some target isn't, every receiver that proposes is a conflict
 abbrev pub AMissedTargetMakesAllConflicts : Type 0
 AMissedTargetMakesAllConflicts =
     (v : Values) (t s : ℕ) → IsTrue (is_target (roles_at v t) s) → ¬ IsTrue (ends_stable v t s) →
@@ -29,13 +29,13 @@ StableTargetsAloneLeaveNoExtra =
     ((s : ℕ) → s < v.nodes → IsTrue (ends_stable v t s) → IsTrue (is_target (roles_at v t) s)) →
     (outcome v t).extra ≡ 0
 
--- where no process is, every receiver is silent
+-- if no process is, every receiver is silent
 abbrev pub NoneStableLeavesAllSilent : Type 0
 NoneStableLeavesAllSilent =
     (v : Values) (t : ℕ) → ((s : ℕ) → s < v.nodes → ¬ IsTrue (ends_stable v t s)) →
     (outcome v t).silent ≡ (outcome v t).receivers
 
--- and where some process is stable in the end and none unstable, no receiver is silent
+-- and if some process is stable in the end and none unstable, no receiver is silent
 abbrev pub SettledEndsLeaveNoneSilent : Type 0
 SettledEndsLeaveNoneSilent =
     (v : Values) (t : ℕ) → IsPlan v → t < trial_count v →

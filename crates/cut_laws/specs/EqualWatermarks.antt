@@ -25,7 +25,7 @@ pub record HasNoGap (v : Values) (t : ℕ) : Type 0 where
   pub inside : t < trial_count v
   pub equal : (cell_at v t).l ≡ (cell_at v t).h
 
--- all receivers are silent or none is: none where some process is stable in the end
+-- all receivers are silent or none is: none if some process is stable in the end
 abbrev pub AllAreSilentOrNone : Type 0
 AllAreSilentOrNone =
     (v : Values) (t : ℕ) → IsPlan v → HasNoGap v t →

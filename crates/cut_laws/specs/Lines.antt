@@ -47,12 +47,12 @@ pub record HasLineBounds (v : Values) (i : ℕ) : Type 0 where
 abbrev pub EachLineIsWithinBounds : Type 0
 EachLineIsWithinBounds = (v : Values) (i : ℕ) → IsLine v i → HasLineBounds v i
 
--- where more fail than a quorum can lack
+-- if more fail than a quorum can lack
 abbrev pub TooManyFailedOnALine : Type 0
 TooManyFailedOnALine =
     (v : Values) (i : ℕ) → IsLine v i → (v.nodes - 1) / 4 < (cell_of_line v i).f → NoneIsDecided (line_at v i)
 
--- where none fails
+-- if none fails
 abbrev pub NoneFailedOnALine : Type 0
 NoneFailedOnALine = (v : Values) (i : ℕ) → IsLine v i → (cell_of_line v i).f ≡ 0 → HasNoTargets (line_at v i)
 

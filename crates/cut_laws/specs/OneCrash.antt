@@ -39,7 +39,7 @@ OneCrashIsFoundInSums =
     AreOneCrash v.nodes (length ts) (sum_of v ts)
 
 -- each receiver proposes after H deliveries at least, and at most one more than all copies of H - 1 alerts: after H
--- exactly, where each alert comes once
+-- exactly, if each alert comes once
 abbrev pub OneCrashIsFoundByH : Type 0
 OneCrashIsFoundByH =
     (v : Values) (t j : ℕ) → IsPlan v → OnlyCrashes v → HasOneTarget v t →

@@ -23,7 +23,7 @@ pub record IsByReports (v : Values) (t : ℕ) (heard : EdgeSet) (members : List 
   pub proposed : (s : ℕ) → Contains members s → least_reports v t ≤ reports_of (rule_at v t) heard s
   pub left_out : (s : ℕ) → s < v.nodes → ¬ Contains members s → reports_of (rule_at v t) heard s < (cell_at v t).l
 
--- so it is with each proposal, where it is made
+-- so it is with each proposal, if it is made
 abbrev pub ProposesByReports : Type 0
 ProposesByReports =
     (v : Values) (t j : ℕ) → IfSome (proposed_at v t j) (λ p. IsByReports v t (heard_at v t j p.at) p.members)
@@ -38,7 +38,7 @@ TooFewAlertsMakeAllConflicts =
     (v : Values) (t s : ℕ) → IsTrue (is_target (roles_at v t) s) → raised_about v t s < least_reports v t →
     IsAllConflicts (outcome v t)
 
--- and where each process that is not a target has fewer, none of these is proposed
+-- and if each process that is not a target has fewer, none of these is proposed
 abbrev pub TooFewFalseAlertsLeaveNoExtra : Type 0
 TooFewFalseAlertsLeaveNoExtra =
     (v : Values) (t : ℕ) →

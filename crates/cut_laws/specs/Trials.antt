@@ -30,7 +30,7 @@ alerts_at v t = alert_list (rings_of v) (roles_at v t) (cell_at v t).k
 abbrev pub proposed_at : Values → ℕ → ℕ → Option Proposal
 proposed_at v t j = receiver_proposal v (cell_at v t) (rings_of v) (source_of v.seed t) (alerts_at v t) j
 
--- whether process s is stable in the end: where all alerts of trial t have come
+-- whether process s is stable in the end: if all alerts of trial t have come
 abbrev pub ends_stable : Values → ℕ → ℕ → Bool
 ends_stable v t s = is_stable (rings_of v) (rule_at v t) (set_of (alerts_at v t)) s
 

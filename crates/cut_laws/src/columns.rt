@@ -19,7 +19,7 @@ ghost use Rattle.cut_laws.specs.Columns.{
 use cut_detector::laws::proposes_at_least_place;
 use cut_outcome::laws::{decided_by_votes, receivers_are_the_rest, right_is_decided};
 
-/// A quorum is all N processes, failed ones included, less a quarter of N - 1, rounded down. So where more than that
+/// A quorum is all N processes, failed ones included, less a quarter of N - 1, rounded down. So if more than that
 /// quarter fail or are silent, no trial is decided, whatever K, H and L are.
 pub fn too_few_voters_decide_nothing()
     ensures trials { TooFewVotersDecideNothing }
@@ -30,8 +30,7 @@ pub fn too_few_voters_decide_nothing()
 }
 
 /// A trial is right where enough receivers are neither silent nor a conflict and propose no other process. Where none
-/// proposes another process, as with crashes alone, it is right exactly where a quorum is neither silent nor a
-/// conflict.
+/// proposes another process, as with crashes alone, it is right exactly if a quorum is neither silent nor a conflict.
 pub fn right_by_verdicts()
     ensures verdicts { TrialsAreRightByVerdicts }
     ensures without_extra { RightWithoutExtra }
@@ -60,7 +59,7 @@ pub fn the_others_are_right()
     right_is_decided();
 }
 
-/// Where no process fails, no receiver is a conflict, and each that proposes names a healthy process.
+/// If no process fails, no receiver is a conflict, and each that proposes names a healthy process.
 pub fn no_targets_leave_no_conflicts()
     ensures trials { NoTargetsLeaveNoConflicts }
     ensures sums { NoTargetsLeaveNoConflictsInSums }

@@ -23,9 +23,9 @@ pub fn conflicts_are_settled_too_soon()
     proposes_at_least_place();
 }
 
-/// Where each target is reported once on each of K rings, nobody else is, and there are no implicit alerts, an order
-/// of the alerts ends in a conflict by H and L exactly where the reverse order does by K + 1 - L and K + 1 - H. So of
-/// all orders the two pairs have equal shares of conflicts, as (9, 3) and (8, 2) have for ten rings.
+/// If each target is reported once on each of K rings, nobody else is, and there are no implicit alerts, an order of
+/// the alerts ends in a conflict by H and L exactly if the reverse order does by K + 1 - L and K + 1 - H. So of all
+/// orders the two pairs have equal shares of conflicts, as (9, 3) and (8, 2) have for ten rings.
 pub fn reverses_have_dual_watermarks()
     ensures { ReversesHaveDualWatermarks }
 {

@@ -23,10 +23,9 @@ pub fn crashed_observers_raise_no_alerts()
 {}
 
 /// With crashes alone every receiver proposes where alerts about each target are raised on at least H rings, or on L
-/// with implicit alerts, since observers that have crashed are reported themselves and count then. Where some target
-/// has fewer, every receiver that proposes is a conflict ([`crate::reports::too_few_alerts_are_overlooked`]). So
-/// choose H, or L with implicit alerts, of at most K less the observers of one process that may crash together with
-/// it.
+/// with implicit alerts, since observers that have crashed are reported themselves and count then. If some target has
+/// fewer, every receiver that proposes is a conflict ([`crate::reports::too_few_alerts_are_overlooked`]). So choose H,
+/// or L with implicit alerts, of at most K less the observers of one process that may crash together with it.
 pub fn enough_alerts_leave_none_silent()
     ensures { EnoughAlertsLeaveNoneSilent }
 {

@@ -14,8 +14,8 @@ use cut_outcome::laws::receivers_are_the_rest;
 use cut_plan::cells_are_the_combinations;
 
 /// Alerts only add to what is stable. So no receiver proposes a process that isn't stable once all alerts have come,
-/// and where a target isn't, as one whose observers have mostly crashed and are silent, every receiver that proposes
-/// is a conflict.
+/// and if a target isn't, as one whose observers have mostly crashed and are silent, every receiver that proposes is a
+/// conflict.
 pub fn only_who_ends_stable_is_proposed()
     ensures members { OnlyWhoEndsStableIsProposed }
     ensures missed { AMissedTargetMakesAllConflicts }
@@ -28,8 +28,8 @@ pub fn only_who_ends_stable_is_proposed()
     receivers_are_the_rest();
 }
 
-/// Where some process is stable once all alerts have come and none is unstable then, every receiver proposes: at the
-/// last delivery if not before.
+/// If some process is stable once all alerts have come and none is unstable then, every receiver proposes: at the last
+/// delivery if not before.
 pub fn settled_ends_leave_none_silent()
     ensures { SettledEndsLeaveNoneSilent }
 {

@@ -26,8 +26,8 @@ pub fn trials_are_of_their_line()
     ensures { TrialsAreOfTheirLine }
 {}
 
-/// What the numbers of one line say of each other: on each line, and on lines where too many fail, where none does,
-/// where one crashes and nothing else fails, and where L = H.
+/// What the numbers of one line say of each other: on each line, and on lines where too many fail, if none does, where
+/// one crashes and nothing else fails, and where L = H.
 pub fn numbers_of_a_line()
     ensures each { EachLineIsWithinBounds }
     ensures failed { TooManyFailedOnALine }

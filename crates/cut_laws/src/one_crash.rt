@@ -35,7 +35,7 @@ pub fn one_crash_is_found()
     targets_alone();
 }
 
-/// Each receiver waits for H of the K alerts about the one that has crashed: where each comes once it proposes after
+/// Each receiver waits for H of the K alerts about the one that has crashed: if each comes once it proposes after
 /// exactly H deliveries, and where more copies come after H at least, and at most one more than all copies of H - 1
 /// alerts. So each unit of H costs one more alert.
 pub fn one_crash_is_found_by_h()
@@ -56,8 +56,8 @@ pub fn one_crash_is_found_by_h()
     unstable_are_reported_and_not_stable();
 }
 
-/// So in a plan of version 2 `settled` is H for each receiver where each alert comes once, and within these bounds
-/// where more copies come.
+/// So in a plan of version 2 `settled` is H for each receiver if each alert comes once, and within these bounds where
+/// more copies come.
 pub fn one_crash_is_settled_by_h()
     ensures trials { OneCrashIsSettledByH }
     ensures sums { OneCrashIsSettledByHInSums }

@@ -22,7 +22,7 @@ fn are_pieces(pieces: &[Piece], wanted: &str) -> bool {
     pieces.len() == count
 }
 
-// Whether a ledger has these gaps, and is complete exactly where these are none.
+// Whether a ledger has these gaps, and is complete exactly if these are none.
 pub(crate) fn has_gaps(alloc: Global, ledger: &Ledger, wanted: &str) -> Result<bool, AllocError> {
     let gaps = ledger.gaps(alloc)?;
     Ok(are_pieces(&gaps, wanted) && ledger.complete() == wanted.is_empty())
@@ -36,7 +36,7 @@ const SINGLE_TRIALS: &str = "1 1: 0: 0 1
 const A_PIECE_AND_ITS_TRIAL: &str = "0 2: 0:
 1 1: 16:";
 
-// The number of the fault that the offer of a plan's trials is refused with, 0 where they are taken.
+// The number of the fault that the offer of a plan's trials is refused with, 0 if they are taken.
 fn answer_to(alloc: Global, ledger: &mut Ledger, trials: Piece) -> Result<u16, Fail> {
     let result = result_of(alloc, ledger.plan(), trials)?;
     match ledger.offer(&result) {
@@ -196,7 +196,7 @@ const POSSIBLE_2: &str = "0 1: 4 0 0 0 4 1 1 3 is bad
 0 1: 4 0 1 0 4 1 1 16 is bad
 0 1: 4 0 4 0 4 1 1 1 is bad";
 
-// The number of the slip of a plan that is bad, 0 where none is.
+// The number of the slip of a plan that is bad, 0 if none is.
 fn bad_slip(alloc: Global, json: &str, slips: &[Slip]) -> Result<u64, Fail> {
     let plan = Plan::from_json(alloc, json.as_bytes())?;
     match Ledger::from_slips(alloc, plan, slips) {
@@ -259,8 +259,8 @@ fn faults_are_printed(rt: HostRuntime) -> Result<(), Fail> {
     Ok(())
 }
 
-// Whether the offer of a trial is taken, where no growth of memory is refused: then it leaves a smaller gap, and
-// else the one that there was.
+// Whether the offer of a trial is taken, if no growth of memory is refused: then it leaves a smaller gap, and else the
+// one that there was.
 fn is_taken(alloc: Global, ledger: &mut Ledger) -> Result<bool, Fail> {
     let result = result_of(alloc, ledger.plan(), piece_of("1 1"))?;
     match ledger.offer(&result) {

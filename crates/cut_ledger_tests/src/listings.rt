@@ -70,7 +70,7 @@ fn sums_of(slips: &[Slip], cell: u32) -> [u64; 8] {
     sums
 }
 
-// Whether a cell of a ledger has the sums of these slips, and is done where they have all its trials.
+// Whether a cell of a ledger has the sums of these slips, and is done if they have all its trials.
 fn is_cell(ledger: &Ledger, slips: &[Slip], cell: u32) -> bool {
     if cell >= ledger.plan().cells() {
         return false;
@@ -92,7 +92,7 @@ fn is_listed(alloc: Global, ledger: &Ledger, slips: &[Slip]) -> Result<bool, All
     Ok(are_cells && has_gaps(alloc, ledger, &gaps_of(alloc, slips)?)?)
 }
 
-// Whether a ledger takes the result of a piece exactly where no slip has a trial of it, and adds it then.
+// Whether a ledger takes the result of a piece exactly if no slip has a trial of it, and adds it then.
 fn is_taken_once(
     alloc: Global,
     ledger: &mut Ledger,

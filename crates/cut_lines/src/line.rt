@@ -27,7 +27,7 @@ pub fn header(plan: &Plan) -> &'static [u8]
 }
 
 /// The line of the plan's cell with this number, counted from 0, with a line feed: k, h, l and f of the cell, the
-/// number of its trials, their sums (`settled` where the plan is of version 2), and conflicts in a million receivers,
+/// number of its trials, their sums (`settled` if the plan is of version 2), and conflicts in a million receivers,
 /// rounded down (0 if there are no receivers). It has at most 294 bytes.
 pub fn cell_line(
     alloc: Global,
@@ -61,7 +61,7 @@ pub fn cell_line(
     row(alloc, columns.as_slice())
 }
 
-/// Adds the column of `settled`, where the plan's tables have it.
+/// Adds the column of `settled`, if the plan's tables have it.
 fn push_settled(columns: &mut Vec<u64>, plan: &Plan, totals: Totals) -> Result<(), AllocError>
     ensures { OnOk result
         (columns.new.items ≡ columns.old.items ++ settled_column (version_of plan.now.failing) totals) }

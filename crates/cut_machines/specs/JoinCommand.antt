@@ -67,8 +67,8 @@ pub record AreUntouched (files : JoinFiles) : Type 0 where
   pub new : files.back ≡ files.disk
   pub each : (path : List ℕ) → files.left path ≡ files.found path
 
--- what is left of the files at the other ends: they are as before where no plan was read; and if memory ran out, unless
--- a plan was read and its slips were joined
+-- what is left of the files at the other ends: they are as before if no plan was read; and if memory ran out, unless a
+-- plan was read and its slips were joined
 abbrev pub LeavesOther : Option Place → JoinFiles → WireLog → WireLog → Result ⊤ CliFault → Type 0
 LeavesOther plan files old new (Err Read) = AreUntouched files
 LeavesOther plan files old new (Err (Plan refusal)) = AreUntouched files
@@ -106,8 +106,8 @@ EndsJoinFrom plan files old new ended refused =
 
 -- ---- over files
 
--- the new file was opened, and given back at the end; meanwhile the plan was read, from its file where it has one, and
--- the old ones
+-- the new file was opened, and given back at the end; meanwhile the plan was read, from its file if it has one, and the
+-- old ones
 pub record HasJoined (to : List ℕ) (from : List (List ℕ)) (plan : Option (Bor (List ℕ))) (before after : List ℕ → Place)
     (old new : WireLog) (ended : Result ⊤ CliFault) (refused : Option ℕ) : Type 0 where
   pub found : List ℕ → Place

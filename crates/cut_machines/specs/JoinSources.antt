@@ -51,7 +51,7 @@ read_times n (place.Holds log) =
     place.Holds (record { state = option_map (synced_times n) log.state; failed = log.failed })
 read_times n other = other
 
--- and where a call of the disk failed: the file counts one more
+-- and if a call of the disk failed: the file counts one more
 abbrev pub failed_once : Place → Place
 failed_once (place.Holds log) = place.Holds (record { state = log.state; failed = one_more log.failed })
 failed_once other = other

@@ -23,7 +23,7 @@ pub record SaysAllOf (v : Values) (slips : List Slip) (d : DiskState) : Type 0 w
   pub bytes : reading v d.bytes ≡ Ok slips
   pub durable : (image : List ℕ) → IsImage d.stable image → reading v image ≡ Ok slips
 
--- where the file was unclaimed a study was begun: the bytes, and whatever a crash leaves of them at each moment since the
+-- if the file was unclaimed a study was begun: the bytes, and whatever a crash leaves of them at each moment since the
 -- first sync, say none, or some first ones of the joined slips
 pub record IsBegun (v : Values) (slips : List Slip) (old new : DiskState) : Type 0 where
   pub free : is_unclaimed old.bytes ≡ true

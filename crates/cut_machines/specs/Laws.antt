@@ -67,7 +67,7 @@ SharesGiveThePlansTable =
     (sharing : Sharing) (v : Values) (files : List FileOfShare) → IsPlan v → AreFilesOfShares sharing v files
     → table_over v (joined v (all_slips files)) ≡ table v
 
--- and where the files are complete, each trial of the plan is in exactly one of the joined slips
+-- and if the files are complete, each trial of the plan is in exactly one of the joined slips
 abbrev pub CompleteSharesHaveAllTrials : Type 0
 CompleteSharesHaveAllTrials =
     (sharing : Sharing) (v : Values) (files : List FileOfShare) → IsPlan v → AreFilesOfShares sharing v files

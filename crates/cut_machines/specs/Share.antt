@@ -60,7 +60,7 @@ pub record HasAdded (v : Values) (slips added : List Slip) (doubtful : Option Sl
   pub moments : AppendsEach v slips doubtful added opened new
   pub bytes : SayUpTo v (slips ++ added) doubtful new.bytes
 
--- the same of a disk and of what it is afterwards, where its bytes are known
+-- the same of a disk and of what it is afterwards, if its bytes are known
 abbrev pub AddsTo : Values → List Slip → List Slip → Option Slip → DiskLog → DiskLog → Type 0
 AddsTo v slips added doubtful disk back = IsKnown disk → HasAdded v slips added doubtful (on disk) (on back)
 
@@ -77,10 +77,10 @@ pub record KeepsAll (s : Share) (v : Values) (disk back : DiskLog) : Type 0 wher
   pub own : AreOfShare s v slips added
   pub whole : AreWhole s v slips added
 
--- what is on the disk of a share whose plan was read, by how the command ends. All is kept at Ok and where a write
--- failed. If memory ran out, some slips of the share were added, and a trial of it is in none, or no slip was. Where
--- the disk failed some were added, and one more is doubtful. None was added where a slip is bad, where the journal was
--- not opened, and if memory ran out for its opening
+-- what is on the disk of a share whose plan was read, by how the command ends. All is kept at Ok and if a write failed.
+-- If memory ran out, some slips of the share were added, and a trial of it is in none, or no slip was. If the disk
+-- failed some were added, and one more is doubtful. None was added if a slip is bad, if the journal was not opened, and
+-- if memory ran out for its opening
 abbrev pub Keeps : Result ⊤ CliFault → Share → Values → DiskLog → DiskLog → Type 0
 Keeps (Ok done) s v disk back = KeepsAll s v disk back
 Keeps (Err (Write fault)) s v disk back = KeepsAll s v disk back
@@ -104,8 +104,8 @@ share_task ended s disk back = record {
   fails = λ v fault. Keeps (Err fault) s v disk back;
 }
 
--- the disk is untouched where a read failed or the text is no plan, and also if memory ran out, if the plan was not
--- read then
+-- the disk is untouched if a read failed or the text is no plan, and also if memory ran out, if the plan was not read
+-- then
 abbrev pub LeavesUnread : Option Place → CliFault → DiskLog → DiskLog → WireLog → WireLog → Type 0
 LeavesUnread plan Read disk back old new = back ≡ disk
 LeavesUnread plan (Plan refusal) disk back old new = back ≡ disk
@@ -127,7 +127,7 @@ disk_faults_after (Err (Journal journal.Disk)) n = one_more n
 disk_faults_after (Err Checkpoint) n = one_more n
 disk_faults_after result n = n
 
--- the fault of the program where a share was not run to its end
+-- the fault of the program if a share was not run to its end
 abbrev pub fault_of_share : ShareFault → CliFault
 fault_of_share (share.BadSlip number) = BadSlip number
 fault_of_share share.Disk = Checkpoint
@@ -149,15 +149,15 @@ abbrev pub HasUnread : Option Place → Result ⊤ CliFault → WireLog → Wire
 HasUnread None ended old new = ⊥
 HasUnread (Some place) ended old new = IsUnread place ended old new
 
--- how the command ends over a disk, which is untouched where the plan's file was not read
+-- how the command ends over a disk, which is untouched if the plan's file was not read
 abbrev pub SharesFrom : Option Place → Result ⊤ CliFault → Share → DiskLog → DiskLog → WireLog → WireLog → Type 0
 SharesFrom plan ended s disk back old new =
     SharesOn plan ended s disk back old new ⊎ ((back ≡ disk) × HasUnread plan ended old new)
 
 -- ---- over a file
 
--- how it ends over what stands at a path, by where its plan is read from, and what stands there then: the file was opened, and shut with what its disk
--- holds; or it was not opened, and nothing was read or written
+-- how it ends over what stands at a path, by where its plan is read from, and what stands there then: the file was opened,
+-- and shut with what its disk holds; or it was not opened, and nothing was read or written
 abbrev pub EndsShare : Result ⊤ CliFault → Share → Option Place → Place → Place → WireLog → WireLog → Type 0
 EndsShare ended s plan place after old new =
     ((disk : DiskLog) × (back : DiskLog) × (OpensAs Create disk place × (after ≡ closed back place)

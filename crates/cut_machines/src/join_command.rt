@@ -55,9 +55,9 @@ struct Answered<N, T> {
 /// and writes how many slips there were, how many there are now, and how many trials of how many they hold.
 ///
 /// The new file is opened before anything is read, and made if there is none; it is given back at the end. So an old
-/// path that names it too is refused, as a file that does not open. The plan is read next, from its own file where it
-/// has one, which is only read and may be open. Each old file is opened when its turn comes, only read, and given back:
-/// so there may be more of them than a process can have open.
+/// path that names it too is refused, as a file that does not open. The plan is read next, from its own file if it has
+/// one, which is only read and may be open. Each old file is opened when its turn comes, only read, and given back: so
+/// there may be more of them than a process can have open.
 ///
 /// The old files are read in their order, and their slips are judged as one list, each by its number in that list,
 /// before anything is done to the new file. Then a study is made there, which has to hold none, and gets one slip for
@@ -65,12 +65,12 @@ struct Answered<N, T> {
 /// by an old file, BadSlip, Journal by the new file, and then Migrate, which is a disk that failed while slips were
 /// written. What is read from the wire and written to it, and each fault of it, is as in `run_io`.
 ///
-/// Where it is an old file that is refused, `refused` is its place among them, from 1. The fault is one of a journal
-/// then; where such a fault is that of the new file, and at every other end, `refused` is `None`.
+/// If it is an old file that is refused, `refused` is its place among them, from 1. The fault is one of a journal then;
+/// where such a fault is that of the new file, and at every other end, `refused` is `None`.
 ///
 /// Once the journal of the new file is open, and what was there before is sure, a crash at any moment leaves no study
-/// there, or some first ones of the joined slips; a write of the answer that fails leaves all of them. Where the slips
-/// are true and no trial is in two of them, the joined ones are so too, and theirs is the table of the plan.
+/// there, or some first ones of the joined slips; a write of the answer that fails leaves all of them. If the slips are
+/// true and no trial is in two of them, the joined ones are so too, and theirs is the table of the plan.
 pub fn join<F: Files, W: Wire>(
     files: &mut F,
     alloc: Global,

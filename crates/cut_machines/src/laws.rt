@@ -8,7 +8,7 @@ use cut_ledger::laws::true_slips_give_the_table;
 
 /// Files of shares of one plan join to the plan's table, in any order, whatever the number of shares and the size of
 /// blocks are, and however many shares are missing or stopped early: the slips of all files are true ones, no two of
-/// which have a trial in common, and `join` takes them. Where a file of each share is there and all are complete, each
+/// which have a trial in common, and `join` takes them. If a file of each share is there and all are complete, each
 /// trial of the plan is in exactly one of the joined slips.
 pub fn shares_join_to_the_table()
     ensures slips { SharesAreTrue }

@@ -3,8 +3,8 @@
 //! [`share`] runs one share of a plan and keeps it in a file. [`join`] joins the checkpoints of a plan's study in a new
 //! one. Each ends with its answer or with a fault of the program.
 //!
-//! What they say of the bytes on a wire is known where its log has them, and what they say of a file if it is known
-//! what stands at its path.
+//! What they say of the bytes on a wire is known if its log has them, and what they say of a file if it is known what
+//! stands at its path.
 //!
 //! [`laws`] say that the files of shares join to the table of the plan.
 #![tactic(auto)]

@@ -38,16 +38,16 @@ pub struct ShareWork<'a, G> {
 /// the line `share I of N: n of n`, where n is how many trials the share has. All of them are held then.
 ///
 /// The file is opened before anything is read, and made if there is none. The file of a plan is read after that, where
-/// the wire would be read; where it is not read, the share's file is left as it was opened. The journal is opened once
-/// the plan is read: it holds one of the plan, or it is unclaimed, and then a journal is made. Where what stands at the
-/// path is known, the contract says which slips were found and which were added, at each end: at `Ok`, and where the
-/// write of the answer failed, exactly the trials of the share that were lacking; none at a fault of the opening or a
-/// slip that is bad; some if memory ran out or the disk failed. Whenever a crash comes, what it leaves is read as the
-/// slips that were found and some first ones of those that were added. WorkMemory comes if memory ran out once the
-/// journal was opened.
+/// the wire would be read; if it is not read, the share's file is left as it was opened. The journal is opened once the
+/// plan is read: it holds one of the plan, or it is unclaimed, and then a journal is made. Where what stands at the
+/// path is known, the contract says which slips were found and which were added, at each end: at `Ok`, and if the write
+/// of the answer failed, exactly the trials of the share that were lacking; none at a fault of the opening or a slip
+/// that is bad; some if memory ran out or the disk failed. Whenever a crash comes, what it leaves is read as the slips
+/// that were found and some first ones of those that were added. WorkMemory comes if memory ran out once the journal
+/// was opened.
 ///
 /// At most 65,537 bytes are read, and nothing is written at a fault other than that of a write. Checkpoint, and the
-/// fault Disk of the journal, come exactly where a call of the disk failed, or a file was not opened or not read.
+/// fault Disk of the journal, come exactly if a call of the disk failed, or a file was not opened or not read.
 pub fn share<F, W, G, R>(
     files: &mut F,
     rt: &R,
@@ -79,12 +79,12 @@ struct DiskShare<'a, G, D, F> {
     work: ShareWork<'a, G>,
     /// The disk that keeps it.
     disk: D,
-    /// Where its plan is read from.
+    /// If its plan is read from.
     source: PlanSource<'a, F>,
 }
 
 impl<'a, G> ShareWork<'a, G> {
-    /// The share on a disk, whose plan is read of these files where it has a path.
+    /// The share on a disk, whose plan is read of these files if it has a path.
     fn on<F: Files, D>(self, files: &'a F, disk: D) -> DiskShare<'a, G, D, F>
         ensures { (result.work ≡ self.entry) × (result.disk ≡ disk)
             × (source_place F.log result.source ≡ plan_place (F.log files.now) self.entry.plan) }
@@ -183,7 +183,7 @@ where
     }
 }
 
-/// The fault of the program where a share was not run to its end. A journal that was just opened is of the plan and not
+/// The fault of the program if a share was not run to its end. A journal that was just opened is of the plan and not
 /// broken, so the last two do not come.
 fn fault_of_share(fault: ShareFault) -> CliFault
     ensures { result ≡ fault_of_share fault }

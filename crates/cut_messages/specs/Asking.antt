@@ -55,9 +55,8 @@ pub record Stop (messages : List Message) : Type 0 where
   pub parts : messages ≡ before ++ here ∷ after
   pub passed : AllByRecursion GoesOn before
 
--- what an output took of replies: the lines of all of them, where none is a last one; or those
--- before the one at which it stops, which says that the table is whole, or has a fault's number,
--- or has a line of which a part was written
+-- what an output took of replies: the lines of all of them, if none is a last one; or those before the one at which it
+-- stops, which says that the table is whole, or has a fault's number, or has a line of which a part was written
 abbrev pub Passes : List Message → Result AnswerState AskFault → WireLog → WireLog → Type 0
 Passes messages (Ok More) old new =
     AllByRecursion GoesOn messages × (new ≡ wrote old (lines_of messages))
@@ -103,8 +102,8 @@ asked plan given t =
 abbrev pub heard : List ℕ → List ℕ → WireLog → WireLog
 heard plan given l = passing (asked plan given) l
 
--- and whose last read gave the end exactly where the answer ended before the table did, and failed exactly where
--- that is the fault
+-- and whose last read gave the end exactly if the answer ended before the table did, and failed exactly if that is the
+-- fault
 abbrev pub ended : Traffic → Traffic
 ended t = record { taken = t.taken; given = t.given; ends = one_more t.ends }
 
@@ -125,9 +124,9 @@ pub record Hears (plan : List ℕ) (result : Result ⊤ AskFault) (old new out_o
   pub unread : IsUnread result last
   pub wire : new ≡ left_by result (heard plan (stream ++ last) old)
 
--- what passed over the wire and the output, and which calls failed: nothing, where the plan is too long; a part of
--- the request, where a write of it failed; else the request and an answer. Of a wire of which nothing is known there
--- is some answer of which the output took the lines.
+-- what passed over the wire and the output, and which calls failed: nothing, if the plan is too long; a part of the
+-- request, if a write of it failed; else the request and an answer. Of a wire of which nothing is known there is some
+-- answer of which the output took the lines.
 abbrev pub Asks : List ℕ → Result ⊤ AskFault → WireLog → WireLog → WireLog → WireLog → Type 0
 Asks plan (Err ask.PlanTooLong) old new out_old out_new =
     (LONGEST_PAYLOAD < length plan) × (new ≡ old) × (out_new ≡ out_old)

@@ -31,6 +31,6 @@ number_of_ask ask.Truncated = number_of code.Truncated
 number_of_ask (ask.Stream fault) = number_of (code_of_stream fault)
 number_of_ask (ask.Reported number) = number
 
--- number and name, `Unknown` where the list has none
+-- number and name, `Unknown` if the list has none
 abbrev pub ask_fault_text : AskFault → List ℕ
 ask_fault_text fault = text_with (number_of_ask fault) (name_numbered (number_of_ask fault))

@@ -25,7 +25,7 @@ kinds_of Replies = kind.Row ∷ kind.Done ∷ kind.Count ∷ kind.Fault ∷ []
 abbrev pub kind_at : Side → ℕ → Option Kind
 kind_at side byte = find (λ kind. byte_of kind == byte) (kinds_of side)
 
--- the length of the payloads of a kind, where they all have one
+-- the length of the payloads of a kind, if they all have one
 abbrev pub length_of : Side → Kind → Option ℕ
 length_of side kind.Submit = None
 length_of side kind.Row = None

@@ -42,7 +42,7 @@ impl fmt::Display for StreamFault {
     }
 }
 
-/// Why a stream may not end where it does. It is printed as its number and its name.
+/// Why a stream may not end if it does. It is printed as its number and its name.
 #[derive(Clone, Copy, Debug, PartialEq, Eq, Error)]
 pub enum EndFault {
     /// The stream has a fault.

@@ -8,8 +8,8 @@
 //! reading.
 //!
 //! [`send_message`] sends one message over a line, [`RowMessages`] frames the rows of a table, and [`ask`] sends a plan
-//! and writes the lines of the answer. What they say of the bytes on their wires holds where the wire's log has them;
-//! that a failed read or write is reported only where one failed holds over every wire.
+//! and writes the lines of the answer. What they say of the bytes on their wires holds if the wire's log has them; that
+//! a failed read or write is reported only where one failed holds over every wire.
 #![tactic(auto)]
 
 mod client;

@@ -28,7 +28,7 @@ impl Side {
         }
     }
 
-    /// The length of the payloads of a kind, where they all have one.
+    /// The length of the payloads of a kind, if they all have one.
     fn length_of(self, kind: Kind) -> Option<u32>
         ensures { result ≡ length_of self kind }
     {

@@ -26,13 +26,13 @@ use cut_trial::{TrialFault, run_piece};
 use std::alloc::Global;
 
 /// Moves the slips of a study of version 1 to the journal of its plan's upgrade: runs the trials of each slip again for
-/// the upgrade, and keeps the result where the numbers that both versions have are those of the slip. Returns how many
+/// the upgrade, and keeps the result if the numbers that both versions have are those of the slip. Returns how many
 /// slips it moved, which are all.
 ///
-/// It is refused before any write where the plan is not of version 1, then where a slip is one that no ledger begins
-/// with, and then where the journal is not that of the upgrade. After that the first slip whose sums are not those of
-/// its trials ends it, as do a broken journal, a disk that fails, and memory that is refused: the slips before the
-/// present one are kept then, and no later one; where the disk failed the present one may be kept too.
+/// It is refused before any write if the plan is not of version 1, then if a slip is one that no ledger begins with,
+/// and then if the journal is not that of the upgrade. After that the first slip whose sums are not those of its trials
+/// ends it, as do a broken journal, a disk that fails, and memory that is refused: the slips before the present one are
+/// kept then, and no later one; if the disk failed the present one may be kept too.
 ///
 /// Each slip is moved by one append. So a crash at any moment leaves the slips that were acknowledged by then, and at
 /// most one more.

@@ -12,7 +12,7 @@ use Rattle.cut_nodes.specs.declared.node.Node.{Node}
 use Rattle.cut_nodes.specs.declared.nodes.Nodes as declared
 use Rattle.cut_nodes.specs.Slots.{key_of, key_in, AreSlots}
 
--- what makes a ring count for s: its key where its edge is in the set, and its observer where it is gained
+-- what makes a ring count for s: its key if its edge is in the set, and its observer if it is gained
 abbrev pub cause_of : Layout → Rule → EdgeSet → ℕ → ℕ → Option (ℕ × ℕ) × Option ℕ
 cause_of r rule E s ring = (
   if E ring s then Some (key_of rule.k (edge_to s ring)) else None,

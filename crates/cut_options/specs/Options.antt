@@ -18,11 +18,11 @@ option_rule name = record (new_rule name) { long = Some name; value_names = 1 }
 abbrev pub flag_rule : Text → Rule
 flag_rule name = record (new_rule name) { long = Some name; action = Some SetTrue }
 
--- an option with a number, from 1 to a greatest one, and with its value where it is not given, if it has one
+-- an option with a number, from 1 to a greatest one, and with its value if it is not given, if it has one
 abbrev pub number_rule : Text → ℕ → List Text → Rule
 number_rule name most value = record (option_rule name) { parser = Some (Signed (pos 1) (pos most)); defaults = value }
 
--- the options `--piece`, 1 to 1,000,000, and `--workers`, 1 to 64, with their values where they are not given
+-- the options `--piece`, 1 to 1,000,000, and `--workers`, 1 to 64, with their values if they are not given
 abbrev pub sizes : List Rule
 sizes =
     number_rule (codes "piece") LARGEST_PIECE (codes "16" ∷ [])

@@ -35,7 +35,7 @@ cast_of proposals = filter_map members_of proposals
 
 -- ---- a ballot as contracts see it: the members that were proposed, each with its votes
 
--- the votes of these members, 0 where the ballot doesn't have them
+-- the votes of these members, 0 if the ballot doesn't have them
 abbrev pub votes_in : List (List ℕ × ℕ) → List ℕ → ℕ
 votes_in ballot members = unwrap_or (lookup (same_members members) ballot) 0
 

@@ -79,7 +79,7 @@ abbrev pub ReceiversAreTheRest : Type 0
 ReceiversAreTheRest =
     (v : Values) (f : ℕ) (d : Source) (r : Layout) → length (receivers_of (drawn v f d r)) ≡ v.nodes - f
 
--- where no process fails, none lies and no link is cut, every receiver is silent
+-- if no process fails, none lies and no link is cut, every receiver is silent
 abbrev pub SilentWhereNothingFails : Type 0
 SilentWhereNothingFails =
     (v : Values) (t : ℕ) → (cell_at v t).f ≡ 0 → v.liars ≡ 0 → v.links ≡ 0 → (outcome v t).silent ≡ v.nodes

@@ -26,7 +26,7 @@ use Rattle.cut_outcome.specs.FastRound.{quorum_of, votes_of, most_votes, cast_of
 abbrev pub rings_of : Values → Layout
 rings_of v = hashed_layout v.seed v.nodes (largest v.k)
 
--- what receiver j proposes, in a cell, by the draws d, where these edges are alerted
+-- what receiver j proposes, in a cell, by the draws d, if these edges are alerted
 abbrev pub receiver_proposal : Values → Cell → Layout → Source → List Edge → ℕ → Option Proposal
 receiver_proposal v c r d edges j =
     proposal_of r (record { k = c.k; h = c.h; l = c.l; implicit = v.implicit })
@@ -36,7 +36,7 @@ receiver_proposal v c r d edges j =
 abbrev pub proposals_of : Values → Cell → Layout → Source → Assignment → List (Option Proposal)
 proposals_of v c r d a = map (λ j. receiver_proposal v c r d (alert_list r a c.k) j) (receivers_of a)
 
--- after how many deliveries a receiver proposed, 0 where it did not
+-- after how many deliveries a receiver proposed, 0 if it did not
 abbrev pub place_of : Option Proposal → ℕ
 place_of None = 0
 place_of (Some p) = p.at

@@ -27,7 +27,7 @@ pub record AreCounted (v : Values) (c : Cell) (trials : ℕ) (x : Totals) : Type
   pub votes : x.votes ≤ x.receivers
   -- a trial is decided once at most
   pub decided : x.decided ≤ trials
-  -- and is right only where it is decided
+  -- and is right only if it is decided
   pub right : x.right ≤ x.decided
 
 -- the sums of this many trials of a plan's cell

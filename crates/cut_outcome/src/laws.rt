@@ -67,8 +67,7 @@ pub fn receivers_are_the_rest()
     ensures { ReceiversAreTheRest }
 {}
 
-/// Where no process fails, none lies and no link is cut, nothing is alerted, so no receiver announces
-/// anything.
+/// If no process fails, none lies and no link is cut, nothing is alerted, so no receiver announces anything.
 pub fn silent_where_nothing_fails()
     ensures { SilentWhereNothingFails }
 {}
@@ -96,8 +95,7 @@ pub fn higher_h()
     a_wider_gap_proposes_later();
 }
 
-/// Where no implicit alerts are added, a lower L does the same as a higher H, and so do both together: a
-/// wider gap.
+/// If no implicit alerts are added, a lower L does the same as a higher H, and so do both together: a wider gap.
 pub fn wider_gap()
     ensures verdicts { AWiderGapIsMoreCautious }
     ensures totals { AWiderGapHasFewerConflicts }

@@ -17,7 +17,7 @@ fn span(first: u32, count: u32) -> Span
     Span { first, count }
 }
 
-// Puts a span in where it can be, and says whether it could.
+// Puts a span in if it can be, and says whether it could.
 fn put(set: &mut RangeSet, span: Span) -> Result<bool, AllocError> {
     if !set.is_of_section(span) || set.overlaps(span) {
         return Ok(false);

@@ -7,7 +7,7 @@ use cut_wires::{
 use std::alloc::Global;
 use std::test::Fail;
 
-/// Whether a read into the buffer gives these bytes, or fails where none are to be given.
+/// Whether a read into the buffer gives these bytes, or fails if none are to be given.
 fn gives<W: Wire>(wire: &mut W, buffer: &mut [u8], wanted: Option<&[u8]>) -> bool {
     if buffer.is_empty() {
         return false;
@@ -18,7 +18,7 @@ fn gives<W: Wire>(wire: &mut W, buffer: &mut [u8], wanted: Option<&[u8]>) -> boo
     }
 }
 
-/// Whether a write of these bytes takes this many, or fails where none are to be taken.
+/// Whether a write of these bytes takes this many, or fails if none are to be taken.
 fn takes<W: Wire>(wire: &mut W, bytes: &[u8], wanted: Option<usize>) -> bool {
     wire.write(bytes).ok() == wanted
 }
@@ -87,7 +87,7 @@ fn a_wire_of_streams_moves_bytes(rt: HostRuntime) {
     assert!(rt; moves_over_streams(wire));
 }
 
-/// Whether a line sends these bytes, or fails after some where a fault is to come, and has sent this many then.
+/// Whether a line sends these bytes, or fails after some if a fault is to come, and has sent this many then.
 fn sends<W: Wire>(line: &mut Line<'_, W>, bytes: &[u8], end: Result<(), Sent>, sent: u64) -> bool {
     line.send(bytes) == end && line.sent() == sent
 }

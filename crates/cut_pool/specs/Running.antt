@@ -43,7 +43,7 @@ HasEnded v slips has_journal size (Err WorkMemory) = ⊤
 HasEnded v slips has_journal size (Err AuditMismatch) = AreGood v slips
 
 -- what the wire took then, and whether a write failed: the table over the slips at Ok, exactly as many of its first
--- bytes as are reported where a write failed, nothing where a slip is bad, and else some first bytes of it
+-- bytes as are reported if a write failed, nothing if a slip is bad, and else some first bytes of it
 abbrev pub Takes : Values → List Slip → Result Done RunFault → WireLog → WireLog → Type 0
 Takes v slips (Ok d) old new = new ≡ wrote old (table_over v slips)
 Takes v slips (Err (BadSlip number)) old new = new ≡ old

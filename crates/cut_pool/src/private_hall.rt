@@ -216,8 +216,8 @@ impl<D: Disk + Drop, M: CallLedger, K: CallLedger> Workplace<M> for Hall<D, M, K
     }
 }
 
-/// Lets each pass work in a thread of its own, and writes in this one meanwhile. Where no thread can be made, they
-/// find nothing left to do once it has written.
+/// Lets each pass work in a thread of its own, and writes in this one meanwhile. If no thread can be made, they find
+/// nothing left to do once it has written.
 fn work_beside<S, M, G, R, F>(
     tools: Env<'_, R, G>,
     hall: &S,

@@ -58,11 +58,11 @@ pub struct StudyRun<'a, D: Disk> {
 impl<D: Disk + Drop + Send> StudyRun<'_, D> {
     /// Runs the study, and writes its table to the wire: each line as soon as its cell and those before it are done.
     /// The thread of the caller writes, and works while a line is not there; the other workers have threads of their
-    /// own. Where fewer threads can be made, fewer do the work.
+    /// own. If fewer threads can be made, fewer do the work.
     ///
-    /// With a journal the study goes on from the slips that it was opened with, and each piece is kept in it. The
-    /// table is that over the slips, which is the plan's where they are true. A bad slip is reported before any byte is
-    /// written. The gate's `opened` is called once the book is open.
+    /// With a journal the study goes on from the slips that it was opened with, and each piece is kept in it. The table
+    /// is that over the slips, which is the plan's if they are true. A bad slip is reported before any byte is written.
+    /// The gate's `opened` is called once the book is open.
     pub fn run<'a, W, G, R>(
         self,
         rt: &'a R,
@@ -225,9 +225,9 @@ fn is_complete(report: &Report) -> bool
     report.slots().iter().all(|slot| slot.complete())
 }
 
-/// What a run answers where a line did not come. Where calls can be counted no further, that is a mismatch of the
-/// audit, unless the hall could not be closed either. Without a journal no checkpoint fails: a slot that says so has
-/// not the study's book.
+/// What a run answers if a line did not come. Where calls can be counted no further, that is a mismatch of the audit,
+/// unless the hall could not be closed either. Without a journal no checkpoint fails: a slot that says so has not the
+/// study's book.
 fn fault_of_line(fault: NextRowFault, not_closed: Option<RunFault>, has_journal: bool) -> RunFault
     requires { IfSome not_closed IsNotEnded }
     ensures value { result ≡ of_line fault not_closed has_journal }

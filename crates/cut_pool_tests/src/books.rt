@@ -112,7 +112,7 @@ fn notes_its_calls(alloc: Global, book: &mut KeptBook) -> Result<bool, AllocErro
     Ok(is_noted && are_lost && taken(alloc, book.history())? == 2)
 }
 
-/// Whether a book answers so over a new disk that fails in the call of this number, where an append fails then or not.
+/// Whether a book answers so over a new disk that fails in the call of this number, if an append fails then or not.
 fn is_kept(
     alloc: Global,
     book: &mut KeptBook,

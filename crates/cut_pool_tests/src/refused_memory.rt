@@ -1,5 +1,5 @@
-//! Studies for which an allocation may be refused. Where none is, each of them is whole; the test also holds where any
-//! one allocation of its runs is refused, and is meant to be run so by hand.
+//! Studies for which an allocation may be refused. If none is, each of them is whole; the test also holds if any one
+//! allocation of its runs is refused, and is meant to be run so by hand.
 
 use crate::runs::{BY_TWO, Counts, Ended, Order, run_alone};
 use cut_hall::OpenGate;

@@ -18,7 +18,7 @@ use std::sync::Wait;
 use std::test::Fail;
 use std::thread::Threads;
 
-/// A run of a study over a disk, by two workers in pieces of one trial where nothing else is said, and how it ends.
+/// A run of a study over a disk, by two workers in pieces of one trial if nothing else is said, and how it ends.
 #[derive(Clone, Copy)]
 struct Row {
     study: Study,
@@ -288,7 +288,7 @@ fn leaves<R: Threads + Wait + Sync>(
     Ok(is_right && disk.memory().bytes().len() == file_of(slips))
 }
 
-/// What is reported of its run where this many trials are lacking.
+/// What is reported of its run if this many trials are lacking.
 fn counts_for(lacking: u32) -> Counts {
     let accepted = u64::from(lacking);
     Counts {

@@ -3,7 +3,7 @@ use Rattle.std.specs.Prelude.{ℕ, List, [], ◌∷◌, ◌++◌, codes, Option,
 use Rattle.std.specs.Fmt.{decimal}
 use Rattle.cut_progress.specs.declared.progress_line.ProgressLine.{ProgressLine}
 
--- for how many seconds the study is still to be run, where that is estimated
+-- for how many seconds the study is still to be run, if that is estimated
 abbrev pub left_words : Option ℕ → List ℕ
 left_words None = []
 left_words (Some seconds) = codes ", about " ++ decimal seconds ++ codes " s left"

@@ -17,7 +17,7 @@ pub struct ProgressLine {
     pub all: u64,
     /// For how many seconds it has been run.
     pub seconds: u64,
-    /// For how many seconds it is still to be run, where that is estimated.
+    /// For how many seconds it is still to be run, if that is estimated.
     pub left: Option<u64>,
 }
 
@@ -49,7 +49,7 @@ fn push_number(text: &mut LineText, words: &str, number: u64)
     text.push_str(digits.format(number));
 }
 
-/// Adds for how many seconds a study is still to be run, where that is estimated.
+/// Adds for how many seconds a study is still to be run, if that is estimated.
 fn push_left(text: &mut LineText, left: Option<u64>)
     requires { length text.old.bytes ≤ 83 }
     ensures text { text.new.bytes ≡ text.old.bytes ++ left_words left }

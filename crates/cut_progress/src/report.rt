@@ -11,7 +11,7 @@ use std::time::{Clock, Instant};
 /// Does some work in this thread, and prints the progress of the study in it on a wire meanwhile, from a thread of its
 /// own: a line each second from its beginning on, and one at its end.
 ///
-/// Where no thread can be made, only the last line is printed. Work in which no study begins has none, and none comes
+/// If no thread can be made, only the last line is printed. Work in which no study begins has none, and none comes
 /// after a write that failed, or once the clock can't be read. This takes no memory of its own.
 pub fn report_while<E, R, F, T>(rt: &R, progress: &Progress, errors: &mut E, work: &mut F) -> T
 where

@@ -61,7 +61,7 @@ impl Findings {
         }
     }
 
-    /// Whether some of the receivers is found to propose. Where none is, none of their places is needed.
+    /// Whether some of the receivers is found to propose. If none is, none of their places is needed.
     #[inline]
     pub fn has_proposals(self) -> bool
         ensures { result ≡ has_proposals self }
@@ -80,7 +80,7 @@ pub(crate) fn has_bit(bits: u64, lane: usize) -> bool
 }
 
 impl Receivers {
-    /// Judges what four receivers propose, where the nodes with a flag are the expected members.
+    /// Judges what four receivers propose, if the nodes with a flag are the expected members.
     pub fn judge(&self, wanted: &[bool]) -> Findings
         requires { length wanted.now ≡ length self.now.highs.items }
         ensures doubtful { result.doubtful ≡ self.now.closing.doubt }

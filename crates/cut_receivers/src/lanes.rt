@@ -37,7 +37,7 @@ fn row_of(copy: u8, receiver: u16) -> u32
     (1 << 16) + (u32::from(copy) * 2048 + u32::from(receiver)) * 8192
 }
 
-/// The image, or the greater of two times where that is earlier.
+/// The image, or the greater of two times if that is earlier.
 #[inline(always)]
 pub(crate) fn earlier(image: u32x4, own: u32x4, other: u32x4) -> u32x4
     ensures { (i : ℕ) → i < 4 → slice_index result i
@@ -46,7 +46,7 @@ pub(crate) fn earlier(image: u32x4, own: u32x4, other: u32x4) -> u32x4
     image.simd_min(own.simd_max(other))
 }
 
-/// 1 where the time never comes, 0 elsewhere.
+/// 1 if the time never comes, 0 elsewhere.
 #[inline(always)]
 pub(crate) fn silences(time: u32x4) -> u32x4
     ensures { (i : ℕ) → i < 4 → slice_index result i ≡ cond (nat_lt (slice_index time i) never) 0 1 }
@@ -55,7 +55,7 @@ pub(crate) fn silences(time: u32x4) -> u32x4
         .select(u32x4::splat(0), u32x4::splat(1))
 }
 
-/// 1 where some node has ended by the time and is not expected, or is expected and has not ended; 0 elsewhere.
+/// 1 if some node has ended by the time and is not expected, or is expected and has not ended; 0 elsewhere.
 #[inline(always)]
 pub(crate) fn others(highs: &[u32x4], time: u32x4, wanted: &[bool]) -> u32x4
     requires { length wanted.now ≡ length highs.now }
@@ -74,7 +74,7 @@ pub(crate) fn others(highs: &[u32x4], time: u32x4, wanted: &[bool]) -> u32x4
     marks
 }
 
-/// 1 where the high is after the time, and what was there before elsewhere.
+/// 1 if the high is after the time, and what was there before elsewhere.
 #[inline(always)]
 fn marked_late(marks: u32x4, time: u32x4, high: u32x4) -> u32x4
     ensures { (i : ℕ) → i < 4 → slice_index result i
@@ -83,7 +83,7 @@ fn marked_late(marks: u32x4, time: u32x4, high: u32x4) -> u32x4
     time.simd_lt(high).select(u32x4::splat(1), marks)
 }
 
-/// What was there before where the high is after the time, and 1 elsewhere.
+/// What was there before if the high is after the time, and 1 elsewhere.
 #[inline(always)]
 fn marked_ended(marks: u32x4, time: u32x4, high: u32x4) -> u32x4
     ensures { (i : ℕ) → i < 4 → slice_index result i
@@ -119,7 +119,7 @@ pub(crate) fn next_of(time: u32x4) -> u32x4
     time + u32x4::splat(1)
 }
 
-/// A count, and one more where an image is below a bound.
+/// A count, and one more if an image is below a bound.
 #[inline(always)]
 pub(crate) fn counted(count: u32x4, image: u32x4, bound: u32x4) -> u32x4
     requires { (i : ℕ) → i < 4 → slice_index count i + 1 < 2 ^ 32 }
@@ -132,7 +132,7 @@ pub(crate) fn counted(count: u32x4, image: u32x4, bound: u32x4) -> u32x4
             .select(u32x4::splat(1), u32x4::splat(0))
 }
 
-/// 0 where the second count is one more than the first, 1 elsewhere.
+/// 0 if the second count is one more than the first, 1 elsewhere.
 #[inline(always)]
 pub(crate) fn not_next(before: u32x4, until: u32x4) -> u32x4
     ensures { (i : ℕ) → i < 4 → slice_index before i ≤ never → slice_index result i

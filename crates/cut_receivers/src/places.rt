@@ -49,8 +49,8 @@ impl Places {
 
 impl Receivers {
     /// Counts the deliveries that have come when four receivers propose, by the slots of all alerted edges, for the
-    /// receivers whose times were computed. A place is in doubt exactly where the receiver's closing time is not the
-    /// image of exactly one delivery, so also where it never proposes. Fails only if memory runs out.
+    /// receivers whose times were computed. A place is in doubt exactly if the receiver's closing time is not the image
+    /// of exactly one delivery, so also where it never proposes. Fails only if memory runs out.
     pub fn places(
         &mut self,
         trial: Trial<'_>,

@@ -22,7 +22,7 @@ pub struct Receivers {
     pub lows: Vec<u32x4>,
     /// From when on each node is stable.
     pub highs: Vec<u32x4>,
-    /// When each receiver proposes, and where that is in doubt.
+    /// When each receiver proposes, and if that is in doubt.
     pub closing: Closing,
     pub(crate) images: Vec<[u32x4; 8]>,
     values: Vec<u32x4>,

@@ -107,7 +107,7 @@ fn number(blocks: &[u32], slot: Slot) -> Option<u32> {
     Some(block.saturating_mul(8).saturating_add(u32::from(slot.key)))
 }
 
-/// Whether a slot is there where its ring is alerted, and is that of the ring's edge.
+/// Whether a slot is there if its ring is alerted, and is that of the ring's edge.
 fn is_slot(blocks: &[u32], slot: Option<Slot>, subject: u16, ring: u8) -> bool {
     match slot {
         Some(slot) => {

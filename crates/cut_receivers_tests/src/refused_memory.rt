@@ -1,5 +1,5 @@
-//! Receivers for whose times an allocation may be refused. Where none is, each of them is found as replayed; the test
-//! also holds where any one allocation of its calls is refused, and is meant to be run so by hand.
+//! Receivers for whose times an allocation may be refused. If none is, each of them is found as replayed; the test also
+//! holds where any one allocation of its calls is refused, and is meant to be run so by hand.
 
 use crate::lanes::{Wanted, found_as_replayed};
 use crate::setting::{SEED, Setting};

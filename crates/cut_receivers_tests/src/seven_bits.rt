@@ -1,5 +1,5 @@
-//! Images of seven bits, so that many are equal: where a lane is not in doubt, what has ended by its closing time is
-//! what the detector proposes when the same alerts come in the order of their whole keys.
+//! Images of seven bits, so that many are equal: if a lane is not in doubt, what has ended by its closing time is what
+//! the detector proposes when the same alerts come in the order of their whole keys.
 ghost use Rattle.std.specs.Prelude.{ℕ, ◌<◌, ◌≤◌, slice_index, All, IfOk};
 ghost use Rattle.cut_blocks.specs.Images.{never};
 ghost use Rattle.cut_lanes.specs.Lanes.{lane};

@@ -81,15 +81,15 @@ WritesReport studies (Err WorkMemory) old new = new ≡ old
 WritesReport studies (Err AuditMismatch) old new = new ≡ old
 WritesReport studies (Err fault) old new = ⊥
 
--- ---- where the report is not returned
+-- ---- if the report is not returned
 
 -- how many trials the studies of a server accepted, slot by slot
 pub record AreAccepted (studies : ℕ) (counts : List ℕ) : Type 0 where
   pub slots : length counts ≡ studies
   pub each : All IsAcceptedCount counts
 
--- nothing is written where no report is; else the line that says how many trials all studies accepted, or as many of
--- its first bytes as are reported when a write failed
+-- nothing is written if no report is; else the line that says how many trials all studies accepted, or as many of its
+-- first bytes as are reported when a write failed
 abbrev pub EndsServing : ℕ → Result ⊤ CliFault → WireLog → WireLog → Type 0
 EndsServing studies (Err Folder) old new = new ≡ old
 EndsServing studies (Err Socket) old new = new ≡ old

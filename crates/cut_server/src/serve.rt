@@ -26,11 +26,11 @@ use std::thread::Threads;
 const PIECE_SIZE: u32 = 16;
 
 /// Serves as many connections as the capacity has sessions, each in a thread of its own, and lets its workers work on
-/// the studies that come. Once every session has ended it closes the hall, and gives its report: of every study
-/// the trials that were counted are those that its history accepted.
+/// the studies that come. Once every session has ended it closes the hall, and gives its report: of every study the
+/// trials that were counted are those that its history accepted.
 ///
-/// Where a connection does not come, or a thread or memory is refused, no further one is taken, the work is ended,
-/// and the sessions that had begun go on until their clients leave. The listener comes back.
+/// If a connection does not come, or a thread or memory is refused, no further one is taken, the work is ended, and the
+/// sessions that had begun go on until their clients leave. The listener comes back.
 pub fn serve_sessions<D, S, L, W, R>(
     rt: &R,
     alloc: Global,
@@ -182,7 +182,7 @@ fn accepted(report: &Report) -> u128
     total
 }
 
-/// Serves, as `serve_io` does, at the socket of a path, which is removed once the last connection is taken. Where the
+/// Serves, as `serve_io` does, at the socket of a path, which is removed once the last connection is taken. If the
 /// folder is not there or the socket is not made, nothing is served.
 pub fn serve_at<W, R>(
     host: &HostRuntime,

@@ -10,8 +10,8 @@ use std::alloc::{AllocError, Global};
 
 /// Where a server keeps its studies: each in a file of a folder, if there is one.
 ///
-/// The file is named by the SHA-256 of the plan's canonical text, so that a server which was ended goes on with a
-/// study where it was once its plan comes again.
+/// The file is named by the SHA-256 of the plan's canonical text, so that a server which was ended goes on with a study
+/// if it was once its plan comes again.
 #[derive(Clone, Copy)]
 pub struct FolderShelf<'a> {
     /// What opens the files.

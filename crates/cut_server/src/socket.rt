@@ -46,8 +46,8 @@ pub struct Socket<'a, H: Files + Net = HostRuntime> {
 }
 
 impl<'a, H: Files + Net> Socket<'a, H> {
-    /// Makes a socket at a path where nothing is, which its owner alone may connect to. Fails if something is there,
-    /// also the socket of a server that ended without removing it, and leaves no file of its own then.
+    /// Makes a socket at a path if nothing is, which its owner alone may connect to. Fails if something is there, also
+    /// the socket of a server that ended without removing it, and leaves no file of its own then.
     pub fn open(host: &'a H, path: &'a str) -> io::Result<Socket<'a, H>> {
         let listener = UnixListener::bind(host, path)?;
         let owner_alone = Permissions::from_mode(0o600);

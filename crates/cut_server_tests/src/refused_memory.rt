@@ -1,4 +1,4 @@
-//! Sessions for which an allocation may be refused. Where none is, each of them is whole; the test also holds where any
+//! Sessions for which an allocation may be refused. If none is, each of them is whole; the test also holds where any
 //! one allocation of its sessions is refused, and is meant to be run so by hand.
 
 use crate::asking::{COUNT, FIRST, PLAN, SECOND, joined};

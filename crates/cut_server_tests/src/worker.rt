@@ -54,7 +54,7 @@ trait SessionHall<M: CallLedger> {
     /// Which hall it is.
     ghost id_of: { Self → TableId };
 
-    /// Works on all studies until the work is ended where this thread is the first one, else serves a client. Once two
+    /// Works on all studies until the work is ended if this thread is the first one, else serves a client. Once two
     /// were served so, the work is ended.
     fn take_part<R: Wait>(&self, rt: &R, alloc: Global, shared: &Shared, pass: &mut Pass<M>)
         requires { pass.old.hall ≡ id_of self.now }

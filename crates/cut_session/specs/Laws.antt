@@ -14,8 +14,8 @@ abbrev pub SessionsSeeNoLess : Type 0
 SessionsSeeNoLess = (hall : HallValue) (low high : View) (end : SessionEnd) (old new : WireLog)
     → EndsSession hall low high end old new → Rises low high
 
--- which calls failed: a write exactly where one is reported, and a read exactly where that is reported, or where the
--- write failed that should have sent it
+-- which calls failed: a write exactly where one is reported, and a read exactly if that is reported, or if the write
+-- failed that should have sent it
 abbrev pub HasFailedCalls : SessionEnd → Failed → Failed → Type 0
 HasFailedCalls (Write fault) old new = (new ≡ with_write old) ⊎ (new ≡ with_write (with_read old))
 HasFailedCalls (Fault session.Read) old new = new ≡ with_read old

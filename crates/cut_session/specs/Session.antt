@@ -31,8 +31,8 @@ pub record Course : Type 0 where
   pub last : List ℕ
   pub out : List ℕ
 
--- the messages are those of the stream, no more are answered than may be, and the replies are some that a
--- hall may give, where the session had seen low at its begin and has seen high
+-- the messages are those of the stream, no more are answered than may be, and the replies are some that a hall may
+-- give, if the session had seen low at its begin and has seen high
 pub record IsCourse (hall : HallValue) (low high : View) (c : Course) : Type 0 where
   pub splits : Splits Requests c.stream (c.answered ++ c.unanswered) c.rest
   pub few : length c.answered ≤ request_limit
@@ -79,7 +79,7 @@ with_end t = record { taken = t.taken; given = t.given; ends = one_more t.ends }
 abbrev pub ended : WireLog → WireLog
 ended l = passing with_end l
 
--- what the last read did, where this fault is due: it gave the end, or it failed
+-- what the last read did, if this fault is due: it gave the end, or it failed
 abbrev pub read_by : SessionFault → WireLog → WireLog
 read_by session.Truncated l = ended l
 read_by session.Read l = read_failed l
@@ -109,9 +109,9 @@ CutsEnd sent c old new =
     (fault : SessionFault) × IsDue fault c × (length c.out ≤ sent) × (sent < length (replies_to fault c))
     × (new ≡ write_failed (read_by fault (passed c (take sent (replies_to fault c)) old)))
 
--- how a session ends, what its wire took and gave, and which calls failed: all replies to the messages before one
--- that quits; all replies, where the input ended after them; the replies and the fault's frame; or exactly as many
--- of the first bytes of these as are reported, where a write failed
+-- how a session ends, what its wire took and gave, and which calls failed: all replies to the messages before one that
+-- quits; all replies, if the input ended after them; the replies and the fault's frame; or exactly as many of the first
+-- bytes of these as are reported, if a write failed
 abbrev pub EndsSessionAs : HallValue → View → View → SessionEnd → Course → WireLog → WireLog → Type 0
 EndsSessionAs hall low high Quit c old new =
     QuitsAtOnce c.unanswered × (length c.answered < request_limit) × (c.last ≡ []) × (new ≡ passed c c.out old)

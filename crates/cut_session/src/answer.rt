@@ -47,7 +47,7 @@ where
     S: Shelf<D>,
     R: Wait,
 {
-    /// Answers requests in order. Fails if the session ends: at one that quits, or where a write of a reply fails.
+    /// Answers requests in order. Fails if the session ends: at one that quits, or if a write of a reply fails.
     pub(crate) fn answer_all<W: Wire>(
         &mut self,
         line: &mut Line<'_, W>,

@@ -1,8 +1,8 @@
 //! A server of a client's requests, over the messages of [`cut_messages`], which this crate offers too.
 //!
-//! [`session`] serves a client: it reads its requests, answers them from a hall of studies in order,
-//! and returns why it ended. What it says of the bytes on its wire holds where the wire's log has them; that a failed
-//! read or write is reported only where one failed holds over every wire.
+//! [`session`] serves a client: it reads its requests, answers them from a hall of studies in order, and returns why it
+//! ended. What it says of the bytes on its wire holds if the wire's log has them; that a failed read or write is
+//! reported only where one failed holds over every wire.
 #![tactic(auto)]
 
 mod answer;

@@ -38,7 +38,7 @@ where
     K: CallLedger,
     R: Wait,
 {
-    /// The line of a cell: once more where it was given before, and else as soon as it is there.
+    /// The line of a cell: once more if it was given before, and else as soon as it is there.
     fn line_of(&mut self, cell: u32) -> Result<Vec<u8>, NextRowFault>
         requires { cell < length (cells_of self.old.opened.now.plan) }
         ensures line { IfOk result

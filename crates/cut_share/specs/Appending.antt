@@ -18,7 +18,7 @@ pub record Adds {D : Type 0} (log_of : D → DiskLog) (added : List Slip)
   pub kept : IsKnown (log_of old.disk) →
       kept_slips new.plan new.count (on (log_of new.disk)) ≡ kept_slips old.plan old.count (on (log_of old.disk)) ++ added
 
--- no append has failed; and where none was made, the journal is as before
+-- no append has failed; and if none was made, the journal is as before
 pub record NoneFailed {D : Type 0} (added : List Slip) (old new : JournalValue D) : Type 0 where
   pub doubtful : new.doubtful ≡ old.doubtful
   pub untouched : length added ≡ 0 → new ≡ old

@@ -38,8 +38,8 @@ pub record CanRun {D : Type 0} (v : Values) (ss : List Slip) (log : JournalValue
 abbrev pub IsNotDone : Share → Values → List Slip → Type 0
 IsNotDone s v ss = (t : ℕ) × IsTrue (is_lacking s v ss t)
 
--- how a run of a share ends, by its answer, where these slips were added: the share has n trials, and all are held
--- now; or why it stopped
+-- how a run of a share ends, by its answer, if these slips were added: the share has n trials, and all are held now; or
+-- why it stopped
 abbrev pub EndsShare : {D : Type 0} → Result ℕ ShareFault → Share → Values → List Slip → List Slip → JournalValue D
     → JournalValue D → Type 0
 EndsShare (Ok n) s v ss added old new =

@@ -56,7 +56,7 @@ impl<'a> SharePieces<'a> {
         trials
     }
 
-    /// The next piece, or `None` where none is left.
+    /// The next piece, or `None` if none is left.
     pub(crate) fn next(&mut self) -> Option<Piece>
         ensures plan { self.new.plan.now ≡ self.old.plan.now }
         ensures share { self.new.share ≡ self.old.share }
@@ -89,7 +89,7 @@ impl<'a> SharePieces<'a> {
         }
     }
 
-    /// The next piece of what is left of one, or `None` where none of it is the share's.
+    /// The next piece of what is left of one, or `None` if none of it is the share's.
     fn next_of_rest(&mut self) -> Option<Piece>
         ensures plan { self.new.plan.now ≡ self.old.plan.now }
         ensures share { self.new.share ≡ self.old.share }

@@ -37,7 +37,7 @@ abbrev pub accepted_recorded : Option HistoryValue → ℕ
 accepted_recorded None = 0
 accepted_recorded (Some h) = accepted_in h.calls
 
--- a slot may have accepted this many trials: none where it had no study, and else no more than the plan of a text has
+-- a slot may have accepted this many trials: none if it had no study, and else no more than the plan of a text has
 abbrev pub IsAcceptedCount : ℕ → Type 0
 IsAcceptedCount n =
     (n ≡ 0) ⊎ ((text : List ℕ) × (v : Values) × (plan_of text ≡ Ok v) × (n ≤ trial_count v))

@@ -43,7 +43,7 @@ abbrev pub has_journal_in : {D : Type 0} → Option (BookValue D) → Bool
 has_journal_in None = false
 has_journal_in (Some b) = is_some b.journal
 
--- a study is begun over what its shelf gave: with a journal exactly where that is a disk
+-- a study is begun over what its shelf gave: with a journal exactly if that is a disk
 abbrev pub IsBegunOver : {D : Type 0} → (Result (Option D) ShelfFault → Type 0) → Bool → Type 0
 IsBegunOver {D} gives has_journal = (disk : Option D) × (gives (Ok disk) × (has_journal ≡ is_some disk))
 
@@ -63,7 +63,7 @@ abbrev pub kept_of : {D : Type 0} → Option (BookValue D) → List Slip
 kept_of None = []
 kept_of (Some b) = b.state.kept
 
--- the slips that it began with where none are kept
+-- the slips that it began with if none are kept
 abbrev pub unkept_of : {D : Type 0} → Option (BookValue D) → List Slip
 unkept_of None = []
 unkept_of (Some b) = if b.state.has_journal then [] else b.state.ledger.base
@@ -191,7 +191,7 @@ abbrev pub HasPlan : {D : Type 0} → Option (BookValue D) → Values → Type 0
 HasPlan None v = ⊥
 HasPlan (Some b) v = b.state.ledger.plan ≡ v
 
--- noted as lost: one where it was not refused
+-- noted as lost: one if it was not refused
 abbrev pub losses_of : {T E : Type 0} → Result T E → ℕ
 losses_of (Ok done) = 1
 losses_of (Err fault) = 0

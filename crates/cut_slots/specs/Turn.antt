@@ -13,15 +13,15 @@ use Rattle.cut_slots.specs.declared.turn.Next.{Next}
 use Rattle.cut_slots.specs.declared.turn.Next.TheVariants as next
 use Rattle.cut_slots.specs.Slot.{TakesResult, TakesLoss, piece_at}
 
--- how a worker goes on after a call of a study's book: not at all where no further call can be counted; with another
--- study where this one's disk has failed; and else with its next piece
+-- how a worker goes on after a call of a study's book: not at all if no further call can be counted; with another study
+-- if this one's disk has failed; and else with its next piece
 abbrev pub next_after : Result ⊤ CallFault → Next
 next_after (Err Full) = next.Nothing
 next_after (Err (Refused book.Checkpoint)) = next.Study
 next_after outcome = next.Piece
 
 -- what a worker draws in a slot of a hall of this many: a piece of its book, by the number that the seat drew; no
--- number where the work is ended or the seat may draw no more; and no piece if there is no book, for which no number is
+-- number if the work is ended or the seat may draw no more; and no piece if there is no book, for which no number is
 -- drawn, or none of the number that was drawn
 abbrev pub DrawsPiece : {D : Type 0} → Result Drawn Next → ℕ → ℕ → Option (BookValue D) → Bool → View → View → Type 0
 DrawsPiece (Ok drawn) slots study b stopped old new =
@@ -65,7 +65,7 @@ abbrev pub CountsTrials : ℕ → ℕ → ℕ → View → View → Type 0
 CountsTrials slots study n old new =
     MatchOption (count_refusal slots old study n) (new ≡ counted old study n) (λ fault. new ≡ old)
 
--- of a piece of this many trials they are counted where its result was accepted, and nothing else is
+-- of a piece of this many trials they are counted if its result was accepted, and nothing else is
 abbrev pub CountsAccepted : {E : Type 0} → Result ⊤ E → ℕ → ℕ → ℕ → View → View → Type 0
 CountsAccepted (Ok done) slots study n old new = CountsTrials slots study n old new
 CountsAccepted (Err fault) slots study n old new = new ≡ old

@@ -12,7 +12,7 @@ pub trait CallLedger: Ledger {
     /// Whether the slips that studies begin with, whose calls it counts, are those that their trials give.
     ghost trusts: { Bool };
 
-    /// With what the study of each of its slots was opened, where they were made with one.
+    /// With what the study of each of its slots was opened, if they were made with one.
     ghost opening: { Option Opening };
 }
 

@@ -75,7 +75,7 @@ pub struct Slot<D: Disk, K: CallLedger> {
     book: Option<Book<D>>,
     kept: Share<K>,
     stopped: bool,
-    /// Of each cell whether its line was given. Where this is shorter, it is not remembered.
+    /// Of each cell whether its line was given. If this is shorter, it is not remembered.
     given: Vec<bool>,
     ghost one_part: { kept.parts ≡ 1 },
     ghost counted: { kept.amount ≡ calls_in book },
@@ -305,8 +305,8 @@ impl<D: Disk + Drop, K: CallLedger> Slot<D, K> {
         }
     }
 
-    /// Begins a study in a slot that has no book: its disk comes from the shelf, and the journal on it is
-    /// opened again, or made where it holds no study. Where it is refused the slot is as it was.
+    /// Begins a study in a slot that has no book: its disk comes from the shelf, and the journal on it is opened again,
+    /// or made where it holds no study. If it is refused the slot is as it was.
     pub fn begin<S: Shelf<D>>(
         &mut self,
         alloc: Global,

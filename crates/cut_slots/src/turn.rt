@@ -33,7 +33,7 @@ pub struct Drawn {
 }
 
 impl<D: Disk + Drop, K: CallLedger> Slot<D, K> {
-    /// Hands the result of a drawn piece in, or returns how the worker goes on where it is not accepted. Where it is, its
+    /// Hands the result of a drawn piece in, or returns how the worker goes on if it is not accepted. If it is, its
     /// trials are counted by the pass on the board.
     pub fn take_and_count<M: CallLedger, C: CallCounter<M, K>>(
         &mut self,
@@ -59,7 +59,7 @@ impl<D: Disk + Drop, K: CallLedger> Slot<D, K> {
         handed
     }
 
-    /// Hands the result of a drawn piece to the book, or returns how the worker goes on where it is not accepted. The
+    /// Hands the result of a drawn piece to the book, or returns how the worker goes on if it is not accepted. The
     /// piece of this number is lost if memory runs out for its result.
     fn take_drawn<M: CallLedger, C: CallCounter<M, K>>(
         &mut self,
@@ -85,8 +85,8 @@ impl<D: Disk + Drop, K: CallLedger> Slot<D, K> {
     }
 }
 
-/// Draws the next piece of the study that a slot has. Nothing is drawn where it has none yet, so that the study which
-/// comes later has all its pieces, nor where its work was ended.
+/// Draws the next piece of the study that a slot has. Nothing is drawn if it has none yet, so that the study which
+/// comes later has all its pieces, nor if its work was ended.
 pub fn draw_in<D: Disk + Drop, K: CallLedger>(
     slot: &Slot<D, K>,
     board: &Board,
@@ -128,7 +128,7 @@ fn count_trials(board: &Board, seat: &mut Seat, drawn: Drawn)
     let _ = board.count(seat, drawn.study, trials);
 }
 
-/// How a worker goes on after a call of a study's book: only where no further call can be counted it ends, and a study
+/// How a worker goes on after a call of a study's book: only if no further call can be counted it ends, and a study
 /// whose disk has failed takes no more, so it leaves that one.
 pub fn next_after(outcome: Result<(), CallFault>) -> Next
     ensures { result ≡ next_after outcome }

@@ -29,9 +29,9 @@ pub record IsFirstUndone (l : Contents) (c : ℕ) : Type 0 where
 abbrev pub AreDone : Contents → Type 0
 AreDone l = (i : ℕ) → i < length (cells_of l.plan) → cell_done l i ≡ true
 
--- what a wire took of a table, and why its writing ended: the header and the lines of all cells; those before the
--- first cell that is not done; or exactly as many of the first bytes of these as are reported and not all, where a
--- write failed or memory ran out
+-- what a wire took of a table, and why its writing ended: the header and the lines of all cells; those before the first
+-- cell that is not done; or exactly as many of the first bytes of these as are reported and not all, if a write failed
+-- or memory ran out
 abbrev pub Emits : Contents → Result ⊤ TableFault → WireLog → WireLog → Type 0
 Emits l (Ok done) old new = AreDone l × (new ≡ wrote old (available l))
 Emits l (Err (NotDone c)) old new = IsFirstUndone l c × (new ≡ wrote old (available l))

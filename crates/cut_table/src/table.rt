@@ -11,8 +11,8 @@ use cut_lines::{cell_line, header};
 use cut_wires::{Line, Plain, Rows, RowsFault, Wire, send_rows};
 use std::alloc::Global;
 
-/// The line of a cell, whose trials are all held, with a line feed. It has at most 294 bytes. That memory ran out
-/// is reported only where they are all held.
+/// The line of a cell, whose trials are all held, with a line feed. It has at most 294 bytes. That memory ran out is
+/// reported only if they are all held.
 pub fn row(alloc: Global, ledger: &Ledger, cell: u32) -> Result<Vec<u8>, RowFault>
     requires { cell < length (cells_of ledger.now.contents.plan) }
     ensures ok { IfOk result (λ line. line.items ≡ row_of ledger.now.contents cell) }
@@ -64,8 +64,8 @@ impl Rows for LedgerRows<'_> {
     ghost fits = { λ _. Prim.omega arith };
 }
 
-/// Writes the header, and the lines of the cells in order, up to the first cell that is not done. Where a write
-/// failed, or memory ran out, fewer bytes were sent than there are.
+/// Writes the header, and the lines of the cells in order, up to the first cell that is not done. If a write failed, or
+/// memory ran out, fewer bytes were sent than there are.
 pub fn emit_table<W: Wire>(alloc: Global, ledger: &Ledger, wire: &mut W) -> Result<(), TableFault>
     ensures { Emits ledger.now.contents result (W.log wire.old) (W.log wire.new) }
 {

@@ -61,7 +61,7 @@ impl Ballot {
         self.add_votes(members, 1)
     }
 
-    /// Counts `votes` proposals with these members, which are copied where no proposal had them before.
+    /// Counts `votes` proposals with these members, which are copied if no proposal had them before.
     pub(crate) fn add_votes(&mut self, members: &[u16], votes: u64) -> Result<(), AllocError>
         ensures counted { OnOk result ((cast : List (List ℕ)) → length cast + votes < 2 ^ 64 →
             HasCounted self.old cast → HasCounted self.new (cast ++ replicate votes members.now)) }

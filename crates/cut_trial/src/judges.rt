@@ -361,7 +361,7 @@ fn all_slots(alloc: Global, alerts: &Alerts<'_>) -> Result<Option<Slots>, AllocE
     }
 }
 
-/// The place of the receiver in a lane: 0 where places are not asked for, and none where its place is in doubt.
+/// The place of the receiver in a lane: 0 where places are not asked for, and none if its place is in doubt.
 fn place_in(places: Option<Places>, lane: usize) -> Option<u64>
     requires { lane < 4 }
     ensures unasked { IfNone places (result ≡ Some 0) }

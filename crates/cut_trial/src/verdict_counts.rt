@@ -59,8 +59,8 @@ impl VerdictCounts {
         self.ballot.clear();
     }
 
-    /// Judges one more receiver, by the members that it proposed and after how many deliveries, where
-    /// these are the targets. A plan of version 1 doesn't ask for that place.
+    /// Judges one more receiver, by the members that it proposed and after how many deliveries, if these are the
+    /// targets. A plan of version 1 doesn't ask for that place.
     pub(crate) fn add(
         &mut self,
         members: Option<&[u16]>,

@@ -94,7 +94,7 @@ fn deaf_counts(plan: &Plan) -> [u16; 4] {
     ]
 }
 
-// The k, h, l and f of the cell of a number, where a plan has one.
+// The k, h, l and f of the cell of a number, if a plan has one.
 fn cell_at(plan: &Plan, number: u32) -> Option<(u8, u8, u8, u16)> {
     if number >= plan.cells() {
         return None;
@@ -103,7 +103,7 @@ fn cell_at(plan: &Plan, number: u32) -> Option<(u8, u8, u8, u16)> {
     Some((k, h, l, f))
 }
 
-// The number of the cell of a trial, where a plan has one.
+// The number of the cell of a trial, if a plan has one.
 fn cell_of(plan: &Plan, trial: u32) -> Option<u32> {
     if trial < plan.trials() {
         Some(plan.cell_of(trial))
@@ -168,7 +168,7 @@ fn is_written(alloc: Global, plan: &Plan, text: &str) -> Result<bool, AllocError
     Ok(plan.canonical(alloc)?.as_slice() == text.as_bytes())
 }
 
-// Whether a plan's upgrade is written as this text, and is the same where the plan is written so too.
+// Whether a plan's upgrade is written as this text, and is the same if the plan is written so too.
 fn is_upgraded(alloc: Global, plan: &Plan, one: &str, two: &str) -> Result<bool, AllocError> {
     let upgraded = plan.upgrade(alloc)?;
     Ok(is_written(alloc, &upgraded, two)? && upgraded.same(plan) == (one == two))

@@ -68,7 +68,7 @@ fn a_ballot_counts_equal_proposals(rt: HostRuntime) -> Result<(), Fail> {
 const TWO_CELLS: &str =
     r#"{"copies":1,"dead":"silent","f":[0,1],"faults":"crash","h":[1],"implicit":true,"k":[1],"l":[1],"liars":0,"links":0,"nodes":5,"repeats":2,"seed":"0000000000000000000000000000000000000000000000000000000000000000","version":1}"#;
 
-// The result of a piece of a text's trials, and `None` where it is refused as none.
+// The result of a piece of a text's trials, and `None` if it is refused as none.
 fn result_of(alloc: Global, text: &str, piece: Piece) -> Result<Option<Totals>, Fail> {
     let plan = Plan::from_json(alloc, text.as_bytes())?;
     let rings = Rings::hashed(alloc, &plan)?;

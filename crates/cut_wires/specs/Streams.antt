@@ -69,7 +69,7 @@ module _ {R W : Type 0} (remaining : R → Option (List ℕ)) (contents : W → 
     ends = s.ends;
   }
 
-  -- what passed is known where the bytes of both were when the wire was made of them
+  -- what passed is known if the bytes of both were when the wire was made of them
   abbrev pub log_of : Streams R W → WireLog
   log_of s = record {
     traffic = if_both (remaining s.first) (contents s.held) (traffic_of s);

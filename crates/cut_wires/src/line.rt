@@ -45,8 +45,8 @@ impl<'a, W: Wire> Line<'a, W> {
         self.wire.read(buffer)
     }
 
-    /// Sends all the bytes, and counts them. Where a write fails, it counts those that the wire took, and the fault
-    /// has the line's count.
+    /// Sends all the bytes, and counts them. If a write fails, it counts those that the wire took, and the fault has
+    /// the line's count.
     pub fn send(&mut self, bytes: &[u8]) -> Result<(), Sent>
         ensures { Sends result bytes.now (sending W.log self.old) (sending W.log self.new) }
     {

@@ -26,7 +26,7 @@ impl StandIns {
     }
 }
 
-/// What stands in for a stream, where it is closed: it has no number then that could be duplicated.
+/// What stands in for a stream, if it is closed: it has no number then that could be duplicated.
 fn stand_in<S: AsFd>(rt: &HostRuntime, stream: &S) -> io::Result<Option<File>> {
     if stream.as_fd().try_clone_to_owned().is_ok() {
         return Ok(None);

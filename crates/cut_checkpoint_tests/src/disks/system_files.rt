@@ -11,7 +11,7 @@ const FILE: &str = "cut_system_files_test/file";
 // A device, which can't be synced.
 const DEVICE: &str = "/dev/null";
 
-// The system, but for one path: where that is to be opened, the device is.
+// The system, but for one path: if that is to be opened, the device is.
 #[derive(Clone, Copy)]
 struct Swapping<'a> {
     host: &'a HostRuntime,

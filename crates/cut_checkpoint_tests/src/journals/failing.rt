@@ -8,7 +8,7 @@ use cut_plan::Plan;
 use std::alloc::{AllocError, Global};
 use std::test::Fail;
 
-// Whether that is what two appends of one result answer, where this call of the disk fails: each of them makes four.
+// Whether that is what two appends of one result answer, if this call of the disk fails: each of them makes four.
 fn are_answers(
     first: Result<u64, JournalFault>,
     second: Result<u64, JournalFault>,
@@ -29,7 +29,7 @@ pub(super) fn slips_found(alloc: Global, disk: FaultyDisk, plan: &Plan) -> Resul
     }
 }
 
-// Whether two appends to a journal answer so where this call of its disk fails.
+// Whether two appends to a journal answer so if this call of its disk fails.
 fn are_answered(journal: &mut Journal<FaultyDisk>, offered: &PieceResult, fail_at: u64) -> bool {
     journal.disk().arm();
     let first = journal.append(offered);
@@ -89,8 +89,8 @@ fn is_opened_again(alloc: Global, disk: FaultyDisk, plan: &Plan, slips: usize) -
     }
 }
 
-// Whether an opening is as it should be where this call of the disk fails: the disk is handed back and opened again,
-// or, where the opening makes fewer calls, the slips are found.
+// Whether an opening is as it should be if this call of the disk fails: the disk is handed back and opened again, or,
+// where the opening makes fewer calls, the slips are found.
 fn opening_holds(
     alloc: Global,
     file: &[u8],

@@ -25,8 +25,8 @@ const fn slip(first: u32) -> Slip {
     }
 }
 
-/// Whether the moving of two slips answers 20 as the disk fails, and then 21, or that both are moved where no call is
-/// to fail.
+/// Whether the moving of two slips answers 20 as the disk fails, and then 21, or that both are moved if no call is to
+/// fail.
 fn is_answered(alloc: Global, plan: &Plan, journal: &mut Journal<FaultyDisk>, fails: bool) -> bool {
     let slips = [slip(0), slip(1)];
     journal.disk().arm();
@@ -38,7 +38,7 @@ fn is_answered(alloc: Global, plan: &Plan, journal: &mut Journal<FaultyDisk>, fa
     first == Err(MigrateFault::Disk) && second == Err(MigrateFault::Broken)
 }
 
-/// Whether the moving of two slips answers so where this call of the disk fails, and as many are found then.
+/// Whether the moving of two slips answers so if this call of the disk fails, and as many are found then.
 fn moving_holds(
     alloc: Global,
     (plan, upgrade): (&Plan, &Plan),

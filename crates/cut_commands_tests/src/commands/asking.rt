@@ -26,7 +26,7 @@ fn a_table_is_asked_for(rt: HostRuntime) -> Result<(), Fail> {
 /// How a command `ask` ends: its text and status, and how many bytes the server's wire takes.
 type AskEnd = (&'static str, u8, usize);
 
-/// Whether it ends so to ask for the table of a text where these bytes are answered, with nothing written.
+/// Whether it ends so to ask for the table of a text if these bytes are answered, with nothing written.
 fn ends_so(alloc: Global, text: &[u8], answer: &[u8], wanted: &AskEnd) -> Result<bool, Fail> {
     let mut wire = MemoryWire::new(alloc, Vec::from_slice(alloc, text)?, 4096);
     let mut server = MemoryWire::new(alloc, Vec::from_slice(alloc, answer)?, 7);

@@ -76,8 +76,8 @@ fn is_reported(ended: Result<Vec<u8>, CliFault>, fail_at: u64) -> bool {
     }
 }
 
-/// Runs the plan on a disk that fails at this call, and where it did then again. Whether the disk failed; and whether
-/// the first run reported it where it did, and the second one wrote the table.
+/// Runs the plan on a disk that fails at this call, and if it did then again. Whether the disk failed; and whether the
+/// first run reported it if it did, and the second one wrote the table.
 fn runs_twice<T: Threads + Wait + Sync>(
     rt: &T,
     alloc: Global,
@@ -137,7 +137,7 @@ fn a_study_outlives_its_wire(rt: HostRuntime) -> Result<(), Fail> {
     Ok(())
 }
 
-/// The digest of the slip of the first trial with five receivers, where the plan has four.
+/// The digest of the slip of the first trial with five receivers, if the plan has four.
 const MORE_RECEIVERS: [u8; 32] = [
     0xde, 0x01, 0xd7, 0xc1, 0x5b, 0xf5, 0x19, 0x3d, 0xaf, 0x18, 0x25, 0x60, 0x39, 0x50, 0x78, 0x45,
     0x37, 0x09, 0x9b, 0x7f, 0xd3, 0xc8, 0x0a, 0x5f, 0x7d, 0x1c, 0x5c, 0xfe, 0x29, 0x62, 0x90, 0x39,

@@ -163,7 +163,7 @@ const ORDERS: &[Order] = &[
     },
 ];
 
-/// Two gates are moved where a study is made, the first one closed and then opened, and one for each slip.
+/// Two gates are moved if a study is made, the first one closed and then opened, and one for each slip.
 #[test]
 fn other_workers_work_while_a_write_waits(rt: HostRuntime) -> Result<(), Fail> {
     for (number, order) in ORDERS.iter().enumerate() {

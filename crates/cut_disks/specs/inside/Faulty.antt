@@ -20,7 +20,7 @@ Counts old new =
 abbrev pub was_due : FaultyDiskValue → FaultyDiskValue → Bool
 was_due old new = new.counting && (old.fail_in == 1)
 
--- a call that changes nothing: it fails where it is the failing one, and else it doesn't
+-- a call that changes nothing: it fails if it is the failing one, and else it doesn't
 abbrev pub Looks : {T E : Type 0} → Result T E → Bool → MemoryDiskValue → MemoryDiskValue → Type 0
 Looks result true old new = IsErr result × (new ≡ with_failure old)
 Looks result false old new = IsOk result × (new ≡ old)

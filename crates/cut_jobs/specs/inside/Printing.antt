@@ -9,19 +9,19 @@ use Rattle.cut_commands.specs.declared.fault.CliFault.{CliFault}
 use Rattle.cut_jobs.specs.Jobs.{PrintsRefused}
 use Rattle.cut_jobs.specs.Sending.{IsCutShort}
 
--- what is printed on the errors where progress is asked for, and where it is not
+-- what is printed on the errors where progress is asked for, and if it is not
 abbrev pub PrintsIf : Bool → WireLog → WireLog → Type 0
 PrintsIf true old new = HasPrinted old new
 PrintsIf false old new = new ≡ old
 
--- what is printed there where it is asked which file is refused, by how the join ended, and where it is not
+-- what is printed there if it is asked which file is refused, by how the join ended, and if it is not
 abbrev pub PrintsFileIf : Bool → List (Bor (List ℕ)) → Result ⊤ CliFault → WireLog → WireLog → Type 0
 PrintsFileIf true files ended old new =
     (refused : Option ℕ) × (NamesRefusedFile (length files) ended refused
     × PrintsRefused (map (λ s. s.now) files) refused old new)
 PrintsFileIf false files ended old new = new ≡ old
 
--- the one that is named there, if that is asked for, is the one that is refused where the join ended
+-- the one that is named there, if that is asked for, is the one that is refused if the join ended
 abbrev pub TellsFileIf : Bool → List (List ℕ) → (Option ℕ → Type 0) → WireLog → WireLog → Type 0
 TellsFileIf true paths ends old new = (refused : Option ℕ) × (ends refused × PrintsRefused paths refused old new)
 TellsFileIf false paths ends old new = ⊤

@@ -31,7 +31,7 @@ with_next s x = record {
   totals = plus s.totals x.totals;
 }
 
--- slips with one after them: it is merged with the last one where it goes on from there
+-- slips with one after them: it is merged with the last one if it goes on from there
 abbrev pub with_slip : Values → List Slip → Slip → List Slip
 with_slip v [] x = x ∷ []
 with_slip v (s ∷ []) x = if adjoins v s.piece x.piece then with_next s x ∷ [] else s ∷ x ∷ []

@@ -63,7 +63,7 @@ HaveBadSlip v slips Memory = ⊤
 HaveBadSlip v slips (BadSlip number) = IsFirstBad v slips number
 HaveBadSlip v slips fault = ⊥
 
--- where a file at a place is not read it is refused, unless memory ran out
+-- if a file at a place is not read it is refused, unless memory ran out
 abbrev pub refused_at : ℕ → CliFault → Option ℕ
 refused_at number (Journal fault) = Some number
 refused_at number fault = None

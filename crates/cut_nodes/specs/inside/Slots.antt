@@ -9,8 +9,8 @@ pub record IsSlot (blocks : List ℕ) (number : ℕ) (slot : Slot) : Type 0 wher
   pub within : slot.block < length blocks
   pub eight : slot.key < 8
 
--- blocks once some are added: the old ones come first, at most `more` follow, and all are below 2 ^ 13 where the old
--- ones are
+-- blocks once some are added: the old ones come first, at most `more` follow, and all are below 2 ^ 13 if the old ones
+-- are
 pub record Extends (old : List ℕ) (more : ℕ) (new : List ℕ) : Type 0 where
   pub long : length old ≤ length new
   pub kept : (i : ℕ) → i < length old → slice_index new i ≡ slice_index old i

@@ -32,15 +32,15 @@ abbrev pub NoWriteFailed : Result ℕ (RowsFault NextRowFault) → Type 0
 NoWriteFailed (Err (rows.Write fault)) = ⊥
 NoWriteFailed sent = ⊤
 
--- what a run answers where a line did not come: Checkpoint only with a journal, and no fault of a write or a slip
+-- what a run answers if a line did not come: Checkpoint only with a journal, and no fault of a write or a slip
 abbrev pub CanLose : RunFault → Bool → Type 0
 CanLose WorkMemory has_journal = ⊤
 CanLose AuditMismatch has_journal = ⊤
 CanLose Checkpoint has_journal = IsTrue has_journal
 CanLose other has_journal = ⊥
 
--- the answer where the whole table was sent, and the hall was closed with a report: a trial that is not held at the end of a
--- slot is a mismatch
+-- the answer if the whole table was sent, and the hall was closed with a report: a trial that is not held at the end of
+-- a slot is a mismatch
 abbrev pub audited : ℕ → List SlotEnd → Result Done RunFault
 audited sent report =
     if list_all (λ slot. slot.complete) report then Ok (record { sent = sent; report = report }) else Err AuditMismatch
@@ -52,8 +52,8 @@ conclusion (Ok sent) (Err fault) has_journal = Err fault
 conclusion (Err (rows.Write fault)) closed has_journal = Err (Write fault)
 conclusion (Err (rows.Row fault)) closed has_journal = Err (of_line fault (result_err closed) has_journal)
 
--- what is known of it: done where all was sent, and the hall was closed with every trial held; a write that failed as it is;
--- and else another fault, Checkpoint only of a study with a journal
+-- what is known of it: done if all was sent, and the hall was closed with every trial held; a write that failed as it
+-- is; and else another fault, Checkpoint only of a study with a journal
 abbrev pub Concludes : Result ℕ (RowsFault NextRowFault) → Result (List SlotEnd) RunFault → Bool → Result Done RunFault
     → Type 0
 Concludes sent closed has_journal (Ok d) =

@@ -17,8 +17,8 @@ use Rattle.cut_slots.specs.Lines.{full_line}
 use Rattle.cut_slots.specs.Pass.{Holding}
 use Rattle.cut_pool.specs.Emission.{WrotePrefix}
 
--- how many bytes of a whole are reported, and what the wire took: all of it; exactly as many of its first bytes and
--- not all where a write failed; and some first bytes where a line did not come
+-- how many bytes of a whole are reported, and what the wire took: all of it; exactly as many of its first bytes and not
+-- all if a write failed; and some first bytes if a line did not come
 abbrev pub EmitsStudy : List ℕ → Result ℕ (RowsFault NextRowFault) → WireLog → WireLog → Type 0
 EmitsStudy whole (Ok sent) old new = (sent ≡ length whole) × (new ≡ wrote old whole)
 EmitsStudy whole (Err (Write fault)) old new =

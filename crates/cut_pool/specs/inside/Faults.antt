@@ -7,8 +7,8 @@ use Rattle.cut_slots.specs.declared.not_closed.NotClosed.TheVariants as closing
 use Rattle.cut_pool.specs.declared.run_fault.RunFault.{RunFault}
 use Rattle.cut_pool.specs.declared.run_fault.RunFault.TheVariants as run
 
--- why a run ended where a line did not come, by why, by what kept its hall from being closed, if anything did, and
--- by whether the study has a journal
+-- why a run ended if a line did not come, by why, by what kept its hall from being closed, if anything did, and by
+-- whether the study has a journal
 abbrev pub of_line : NextRowFault → Option RunFault → Bool → RunFault
 of_line line.WorkMemory not_closed has_journal = run.WorkMemory
 of_line line.Checkpoint not_closed true = run.Checkpoint
@@ -16,7 +16,7 @@ of_line line.Checkpoint not_closed false = run.AuditMismatch
 of_line line.Stopped not_closed has_journal = unwrap_or not_closed run.AuditMismatch
 of_line line.AuditMismatch not_closed has_journal = run.AuditMismatch
 
--- and where its hall was not closed; passes are missing only if memory ran out
+-- and if its hall was not closed; passes are missing only if memory ran out
 abbrev pub of_closing : {T : Type 0} → NotClosed T → RunFault
 of_closing (closing.AuditMismatch mismatch) = run.AuditMismatch
 of_closing closing.Memory = run.WorkMemory

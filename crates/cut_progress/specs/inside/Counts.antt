@@ -4,7 +4,7 @@ use Rattle.cut_progress.specs.declared.counts.Counts.{Counts}
 use Rattle.cut_progress.specs.declared.progress_line.ProgressLine.{ProgressLine}
 
 -- for how many seconds it is still to be run, after this many seconds in which some of its trials were run: those that
--- are not held take as long each as these took. None where no trial was run, or where it has ended.
+-- are not held take as long each as these took. None if no trial was run, or if it has ended.
 abbrev pub seconds_left : Counts → ℕ → Option ℕ
 seconds_left c seconds =
     if (c.held - c.first == 0) || c.has_ended then None

@@ -37,7 +37,7 @@ pub is_kept : (name : GName) (pass : Holding) → IsKept name pass name pass
 is_kept name pass = record { same = refl; own = refl; view = refl }
 
 -- what is sent after the rows of a table, by how these were sent: that it is whole, or why no further row comes, or
--- nothing where a write failed
+-- nothing if a write failed
 abbrev pub EndsTable : Result ⊤ (RowsFault NextRowFault) → Result ⊤ Sent → Sending → Sending → Type 0
 EndsTable (Ok done) result old new = Sends result end_frame old new
 EndsTable (Err (Write fault)) result old new = (result ≡ Err fault) × (new ≡ old)

@@ -20,7 +20,7 @@ use Rattle.cut_trial.specs.declared.replays.Replay.{Replay}
 use Rattle.cut_trial.specs.declared.judges.Judges.{Judges}
 use Rattle.cut_outcome.specs.Outcome.{receiver_proposal, IsPlaced}
 
--- what receiver j proposes where these alerts are raised
+-- what receiver j proposes if these alerts are raised
 abbrev pub proposed_by : Alerts → Source → ℕ → Option Proposal
 proposed_by x d j = receiver_proposal x.study.plan.now x.cell x.study.rings.now d x.edges.items j
 
@@ -49,8 +49,8 @@ pub record IsNext (x : Alerts) (roles : Assignment) (d : Source) (receivers : Li
   pub some : index < length receivers
   pub before : IsJudging roles judges.outcome (proposals_to x d receivers index)
 
--- what was found of a receiver that hears this, compared with these expected members: what it proposes, where the
--- closing of its lane is in no doubt, and at which place, where a plan's version asks for it
+-- what was found of a receiver that hears this, compared with these expected members: what it proposes, if the closing
+-- of its lane is in no doubt, and at which place, where a plan's version asks for it
 pub record IsFound (x : Hearing) (version : Version) (wanted : List ℕ) (doubt : Bool) (found : Found) : Type 0 where
   pub finds : Finds wanted (members_at x) found.finding
   pub certain : IsTrue doubt → found.finding ≡ Finding.Doubtful

@@ -18,8 +18,8 @@ abbrev pub room_after : ℕ → Result ℕ WireFault → ℕ
 room_after room (Ok n) = room - n
 room_after room (Err e) = room
 
--- a write of bytes: with no room for any of some it fails, and no later one is held back. Else it is a write
--- to the wire in memory, of the first bytes for which there is room, or of all where none is held back.
+-- a write of bytes: with no room for any of some it fails, and no later one is held back. Else it is a write to the
+-- wire in memory, of the first bytes for which there is room, or of all if none is held back.
 pub record HasWrittenInRoom (old : FaultyWireValue) (result : Result ℕ WireFault) (bytes : List ℕ)
     (new : FaultyWireValue)
     : Type 0 where

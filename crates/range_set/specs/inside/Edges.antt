@@ -8,7 +8,7 @@ pub record Row : Type 0 where
   pub edges : List ℕ
   pub room : Bool
 
--- a number is in the set where an odd number of edges is at most the number
+-- a number is in the set if an odd number of edges is at most the number
 abbrev pub is_within : List ℕ → ℕ → Bool
 is_within edges t = count_by (λ e. nat_le e t) edges % 2 == 1
 
