@@ -102,7 +102,7 @@ impl Board {
         Ok(())
     }
 
-    /// Draws the next number of a study: the seats together draw 0, 1, 2 and so on, each once. It is greater
+    /// Draws the next number of a study. All seats together draw 0, 1, 2 and so on, each once. The number is greater
     /// than any that this seat drew of the study before.
     pub fn draw(&self, seat: &mut Seat, study: u32) -> Result<u64, SeatFault>
         requires { board_of seat.old ≡ board_id self.now }
@@ -212,7 +212,7 @@ impl Board {
     }
 }
 
-/// What the words of a closed board say of a study.
+/// The totals of a study by the words of a closed board.
 fn study_totals(closed: &Closed<(), Global>, study: u32) -> StudyTotals
     requires study { study < 64 }
     requires words { IsFull closed.now.words × (count_word study < slots_len closed.now.words) }
@@ -224,7 +224,7 @@ fn study_totals(closed: &Closed<(), Global>, study: u32) -> StudyTotals
     }
 }
 
-/// What they say of each study.
+/// The totals of all studies.
 fn read_totals(
     closed: &Closed<(), Global>,
     mut totals: Vec<StudyTotals>,

@@ -5,7 +5,7 @@ use cut_faults::FaultCode;
 use std::fmt;
 use thiserror::Error;
 
-/// Why a call of a seat was refused. Printed, it is its number and its name.
+/// Why a call of a seat was refused. It is printed as its number and its name.
 #[derive(Clone, Copy, Debug, PartialEq, Eq, Error)]
 pub enum SeatFault {
     /// There is no study of this number.
@@ -42,7 +42,7 @@ impl fmt::Display for SeatFault {
     }
 }
 
-/// Why a board was not finished. Printed, it is its number and its name.
+/// Why a board was not finished. It is printed as its number and its name.
 #[derive(Debug, Drop, Error)]
 pub enum Unfinished {
     /// Memory ran out. The board and its seats are gone.

@@ -13,7 +13,7 @@ pub fn counts_add()
     ensures seen { CountsAreSeen }
 {}
 
-/// A read can only raise the greatest count that the seat has seen of its study, and of no other.
+/// A read can only raise the greatest count that the seat has seen of its study, and leaves those of others.
 pub fn reads_are_seen()
     ensures { ReadsAreSeen }
 {}

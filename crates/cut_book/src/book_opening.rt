@@ -16,8 +16,8 @@ use cut_ledger::laws::true_slips_give_the_table;
 use cut_plan::Plan;
 use std::alloc::Global;
 
-/// The book of a plan's study, over the disk that the shelf has for it. Where there is a disk the study is kept on it or
-/// refused: it is never run beside a disk that holds something else.
+/// The book of a plan's study, over the disk that the shelf has for it. If there is a disk, the study is kept on it or
+/// refused: it is never run without its disk.
 pub fn open_book<D: Disk + Drop, S: Shelf<D>>(
     alloc: Global,
     plan: Plan,

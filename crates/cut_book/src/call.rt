@@ -20,7 +20,7 @@ pub enum Answer {
 }
 
 impl Answer {
-    /// What the hand-in returns.
+    /// What the call for a result returns.
     pub fn into_result(self) -> Result<(), BookFault>
         ensures { result ≡ returned self }
     {

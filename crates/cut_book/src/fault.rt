@@ -8,8 +8,8 @@ use std::alloc::AllocError;
 use std::fmt;
 use thiserror::Error;
 
-/// Why a book was not opened, or did not do what it was asked. Printed, it is its number, its name, and the
-/// number of the slip or of the cell.
+/// Why a book was not opened, or refused a call. It is printed as its number, its name, and the number of the slip or
+/// of the cell.
 #[derive(Debug, Drop, Error)]
 pub enum BookFault {
     /// Memory ran out.
@@ -20,7 +20,8 @@ pub enum BookFault {
     Stranger,
     /// A trial of the result is held already.
     Overlap,
-    /// The slip of this number, from 1, is no piece, overlaps an earlier one, or has impossible totals.
+    /// The slip of this number, from 1, is not of a piece of the plan, overlaps an earlier slip, or has impossible
+    /// totals.
     BadSlip(u64),
     /// Not every trial of this cell is held.
     NotDone(u32),

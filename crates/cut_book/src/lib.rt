@@ -1,8 +1,8 @@
 //! A study under a lock: its ledger, its journal, and its history.
 //!
 //! A [`Book`] takes the results of pieces, in any order, and keeps the slip of each on a disk before it enters it into
-//! the ledger. What it was asked and what it answered is its [`History`], and every history is legal: each of its calls
-//! is a step of the machine that a run of a study is.
+//! the ledger. Its calls and their answers are its [`History`], and every history is legal: each call is a step of the
+//! machine that defines a run of a study.
 //!
 //! [`open_book`] opens the study of a plan over the disk that a [`Shelf`] has for it, if it has one.
 #![tactic(auto)]

@@ -19,7 +19,7 @@ pub enum ShelfFault {
     Open,
 }
 
-/// Where the disks stand that keep studies: it gives each plan its disk, or none if nothing is kept.
+/// What keeps the disks of studies: it gives each plan its disk, or none if nothing is kept.
 pub trait Shelf<D: Disk> {
     /// Whether the slips on its disks are those that their trials give: certainly if it has no disk.
     ghost is_true: { Self → Bool } = { λ _. false };

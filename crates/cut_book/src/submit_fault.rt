@@ -8,12 +8,12 @@ use std::alloc::AllocError;
 use std::fmt;
 use thiserror::Error;
 
-/// Why a hall took no study. Printed, it is its number and its name.
+/// Why a hall took no study. It is printed as its number and its name.
 #[derive(Clone, Copy, Debug, PartialEq, Eq, Error)]
 pub enum SubmitFault {
     /// Every slot has the study of another plan.
     SlotsFull,
-    /// The study's disk could not be opened, or what it holds is none of the plan's.
+    /// The study's disk could not be opened, or holds something else than the plan's study.
     Checkpoint,
     /// Memory ran out.
     WorkMemory,

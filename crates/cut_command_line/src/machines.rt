@@ -11,7 +11,7 @@ use clap::ArgMatches;
 use cut_options::{LARGEST_PIECE, MOST_CHECKPOINTS, MOST_SHARES, MOST_WORKERS};
 use std::alloc::{AllocError, Global};
 
-/// What is wrong with a word that is no share.
+/// What is reported of a word that is not a share.
 pub(crate) const WRONG_SHARE: &str =
     "the value for '<I/N>' is none: expected the number of a share, from 1, a slash, and how many shares there are, at most 100000, as in 2/8";
 

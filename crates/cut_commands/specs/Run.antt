@@ -103,7 +103,7 @@ pub record EndsWith (answering : List ℕ → Bool → Result ⊤ CliFault → L
   pub log : new ≡ failed_by result (wrote (read_on text ended old) written)
   pub answers : answering text ended result written
 
--- ---- if a plan is read from
+-- ---- where a plan is read from
 
 -- what stands at the path of a plan's file, where one is named; else the plan is read from the wire
 abbrev pub plan_place : (List ℕ → Place) → Option (Bor (List ℕ)) → Option Place

@@ -17,16 +17,16 @@ use std::alloc::AllocError;
 use std::fmt;
 use thiserror::Error;
 
-/// A printed fault, or its line, which lies in the value itself.
+/// The text of a fault, or its line, kept in the value itself.
 pub type FaultText = ArrayString<64>;
 
-/// Why a command of the program ended without its answer. Printed, it is the line that the program
-/// writes on standard error.
+/// Why a command of the program ended without its answer. It is printed as the line that the program writes on standard
+/// error.
 #[derive(Debug, Drop, Error)]
 pub enum CliFault {
     /// Memory ran out.
     Memory,
-    /// The text that was read is no accepted plan.
+    /// The text that was read is not an accepted plan.
     Plan(Refusal),
     /// A read of the plan failed.
     Read,
@@ -38,17 +38,17 @@ pub enum CliFault {
     Write(Sent),
     /// The checkpoint was not opened.
     Journal(JournalFault),
-    /// The folder of the checkpoints is no folder.
+    /// The folder of the checkpoints is not a folder.
     Folder,
-    /// The slip of this number in the checkpoint, from 1, is none of the plan.
+    /// The slip of this number in the checkpoint, from 1, is not a slip of the plan.
     BadSlip(u64),
     /// The slips of a checkpoint were not all moved to another one.
     Migrate(MigrateFault),
     /// The checkpoint took no more.
     Checkpoint,
-    /// A growth of memory was refused to a study that was run.
+    /// A running study got no more memory.
     WorkMemory,
-    /// What a study counted and what it accepted differ, or it could count no further.
+    /// A study's count and the trials that it accepted differ, or it could count no more calls.
     AuditMismatch,
 }
 

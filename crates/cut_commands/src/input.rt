@@ -18,7 +18,7 @@ pub enum PlanSource<'a, F> {
     Input,
     /// A file, which is only read. It is not locked, and may be open.
     File {
-        /// The files of which it is one.
+        /// The files.
         files: &'a F,
         /// Its path.
         path: &'a str,
@@ -26,7 +26,7 @@ pub enum PlanSource<'a, F> {
 }
 
 impl<'a, F: Files> PlanSource<'a, F> {
-    /// The file at a path, where one is named, and else the wire.
+    /// The file at a path, if one is named, else the wire.
     pub fn of(files: &'a F, plan: Option<&'a str>) -> PlanSource<'a, F>
         ensures { source_place F.log result ≡ plan_place (F.log files.now) plan.entry }
     {

@@ -16,7 +16,7 @@ pub fn write_answer<W: Wire>(wire: &mut W, answer: &[u8]) -> Result<(), CliFault
     }
 }
 
-/// Adds a word, a blank, a number in decimal and a line feed.
+/// Appends a word, a blank, a number in decimal and a line feed.
 pub(crate) fn push_line(
     alloc: Global,
     text: &mut String,

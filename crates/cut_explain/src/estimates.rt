@@ -10,13 +10,13 @@ use std::alloc::{AllocError, Global};
 use std::fmt;
 use std::time::{CpuClock, Duration};
 
-/// For how many milliseconds trials are run, but for a piece that lasts longer.
+/// For how many milliseconds trials are run, unless a piece lasts longer.
 const LONGEST: u64 = 1000;
 
 /// A piece that takes fewer milliseconds is followed by one of twice as many trials.
 const SHORT: u64 = 4;
 
-/// How many pieces are run, and how many trials each of them has, at most.
+/// How many pieces are run at most, and how many trials each has at most.
 const MOST_PIECES: u32 = 64;
 
 const MOST_TRIALS: u32 = 16;
@@ -117,9 +117,9 @@ impl fmt::Display for Amount {
 /// Estimates how long a processor works for the trials of a plan. It is `None` if the clock can't be read.
 ///
 /// It runs pieces of trials in cells that are spread evenly over the plan, for about a second, and takes the time of a
-/// trial to be the mean over them. A piece after which a larger one is run is left out, and so is the first: what a
-/// worker does once for a piece counts as little as it does in a study. What else is to be done but trials is the
-/// making of the rings.
+/// trial to be the mean over them. A piece that is followed by a larger one is left out, and so is the first: so the
+/// work that a worker does once for a piece counts as little as it does in a study. The only other work is to make the
+/// rings.
 pub fn estimate_study<C: CpuClock>(
     alloc: Global,
     clock: &C,
@@ -159,7 +159,7 @@ struct Samples {
 }
 
 impl Samples {
-    /// Adds a piece of `count` trials. `is_alone` leaves those before it out.
+    /// Adds a piece of `count` trials. With `is_alone` the earlier ones are left out.
     fn add(&mut self, time: Duration, count: u32, is_alone: bool) {
         if is_alone {
             self.time_each = Duration::ZERO;

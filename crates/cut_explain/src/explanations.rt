@@ -7,10 +7,10 @@ use cut_findings::{describe_plan, list_findings};
 use cut_plan::{Plan, PlanFault, Refusal};
 use std::alloc::{AllocError, Global};
 
-/// What a text is as a plan, and what there is to say of it.
+/// Whether a text is a plan, and an explanation of it.
 #[derive(Debug, Drop)]
 pub struct Explanation {
-    /// The plan that the text is, or its first fault.
+    /// The plan of the text, or its first fault.
     pub plan: Result<Plan, Refusal>,
     /// The explanation, in lines that each end with a line feed. The first is `accepted`, or `refused: ` and the fault.
     pub text: String,
@@ -18,9 +18,9 @@ pub struct Explanation {
 
 /// Explains a text.
 ///
-/// After the first line come, for a plan, the numbers of its cells and trials, its quorum, the values that stand in no
-/// cell, how many keys are drawn at most, and how large its checkpoint gets at most; for any other text every finding,
-/// with what is expected there. Of both, the keys that stand more than once in the text.
+/// For a plan there follow the numbers of its cells and trials, its quorum, the values that are in no cell, how many
+/// keys are drawn at most, and how large its checkpoint gets at most. For any other text there follows every finding,
+/// with what is expected there. For both, the keys that occur more than once.
 pub fn explain(alloc: Global, text: &[u8]) -> Result<Explanation, AllocError>
     ensures plan { IfOk result (λ e. plan_of text.now ≡ e.plan) }
     ensures first_line { IfOk result (λ e. StartsWith (string_bytes e.text) (first_line (plan_of text.now))) }
@@ -32,7 +32,7 @@ pub fn explain(alloc: Global, text: &[u8]) -> Result<Explanation, AllocError>
     Ok(Explanation { plan, text: lines })
 }
 
-/// The plan that a text is, or its first fault.
+/// The plan of a text, or its first fault.
 fn read_plan(alloc: Global, text: &[u8]) -> Result<Result<Plan, Refusal>, AllocError>
     ensures { IfOk result (λ plan. plan_of text.now ≡ plan) }
 {

@@ -15,16 +15,16 @@ const SEED_DIGITS: usize = 64;
 pub(crate) enum Finding<'a> {
     /// The field is missing.
     Missing,
-    /// This value stands there.
+    /// The field has this value.
     Found(&'a Value),
-    /// This value stands in the list, the first of `wrong` ones.
+    /// The list has this value, the first of `wrong` wrong ones.
     Element {
         place: usize,
         count: usize,
         value: &'a Value,
         wrong: usize,
     },
-    /// This number stands in the list after one that is not less.
+    /// The list has this number after one that is not less.
     Fall {
         place: usize,
         number: u64,
@@ -32,7 +32,7 @@ pub(crate) enum Finding<'a> {
     },
     /// The seed has this number of characters.
     Length(usize),
-    /// A character of the seed is no digit.
+    /// A character of the seed is not a digit.
     Character(usize),
 }
 
@@ -97,7 +97,7 @@ fn list_field(out: &mut String, value: &Value, field: Field) -> Result<(), Alloc
     Ok(())
 }
 
-/// Adds the line of a finding.
+/// Appends the line of a finding.
 fn push_finding(
     out: &mut String,
     field: Field,
@@ -146,7 +146,7 @@ fn finding_in<'a>(rule: FieldRule, value: &'a Value) -> Option<Finding<'a>> {
     }
 }
 
-/// What is wrong with a list of numbers from `least` on and below `end`, except for its order.
+/// What is wrong with a list whose numbers have to be in `least..end`, except for its order.
 fn finding_in_list(value: &Value, least: u64, end: u64) -> Option<Finding<'_>> {
     let items = match value.as_array() {
         Some(items) => items.as_slice(),
@@ -172,7 +172,7 @@ fn finding_in_list(value: &Value, least: u64, end: u64) -> Option<Finding<'_>> {
     None
 }
 
-/// Whether a value is a number from `least` on and below `end`.
+/// Whether a value is a number in `least..end`.
 fn is_within(value: &Value, least: u64, end: u64) -> bool {
     value.as_u64().is_some_and(|n| least <= n && n < end)
 }
@@ -190,7 +190,7 @@ fn finding_in_seed(value: &Value) -> Option<Finding<'_>> {
     Some(Finding::Character(index.saturating_add(1)))
 }
 
-/// If a list does not rise, if the rule asks for one.
+/// The first place at which a list does not rise, if the rule asks for a list.
 fn fall_in<'a>(rule: FieldRule, value: &'a Value) -> Option<Finding<'a>> {
     let items = value.as_array()?.as_slice();
     if !rule.is_of_list() {

@@ -40,7 +40,7 @@ struct Lists<'a> {
 }
 
 impl Lists<'_> {
-    /// How many k, h and l have l <= h <= k.
+    /// How many triples of k, h and l have l <= h <= k.
     fn combinations(&self) -> usize {
         let mut count = 0usize;
         for high in self.h {
@@ -66,7 +66,7 @@ fn lists_in(value: &Value) -> Option<Lists<'_>> {
     Some(lists)
 }
 
-/// The items of a field's list, and none where something is wrong with it.
+/// The items of a field's list, none if something is wrong with it.
 fn sound_items(value: &Value, field: Field) -> &[Value] {
     match sound_value(value, field).and_then(Value::as_array) {
         Some(items) => items.as_slice(),

@@ -1,8 +1,7 @@
 //! What there is to say of the text of a plan, in plain words: what is wrong with it, or how large its study is.
 //!
-//! [`list_findings`] reads a text by another way than the plan, with what is expected at each place, and
-//! [`describe_plan`] says what a plan has. What they write is help: no clause says it, and the tests of `cut_explain`
-//! compare it whole.
+//! [`list_findings`] reads a text in another way than the plan does, and says what is expected at each place.
+//! [`describe_plan`] says what a plan has. What they write is help: no clause says it, and tests compare it whole.
 #![tactic(auto)]
 
 mod findings;

@@ -61,9 +61,9 @@ fn has_between(numbers: &[u8], least: u8, most: u8) -> bool {
         .any(|number| least <= *number && *number <= most)
 }
 
-/// Says in how many cells no trial is right, whatever is drawn: if none fails, for each proposal has a member; with l =
-/// h each proposal has only one, so that none has all failed ones where two fail or more; and if more fail than a
-/// quorum can lack, nothing is decided.
+/// Says in how many cells no trial can be right. If none fails, each proposal has a member. With l = h each proposal
+/// has one member, so none has all failed processes if two or more fail. If more fail than a quorum can lack, nothing
+/// is decided.
 fn count_never_right(out: &mut String, plan: &Plan) -> Result<(), AllocError> {
     let cells = plan.cells();
     let most = plan.nodes().saturating_sub(quorum(plan.nodes()));

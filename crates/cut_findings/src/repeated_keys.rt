@@ -1,11 +1,11 @@
-//! Keys that stand more than once in the text of a plan.
+//! Keys that occur more than once in the text of a plan.
 
 use crate::rules::{FIELDS, field_named};
 use cut_plan::Field;
 use json::{Reader, Scratch, Token};
 use std::alloc::{AllocError, Global};
 
-/// Lists the fields that stand more than once in a text, which is JSON.
+/// Lists the fields that occur more than once in a JSON text.
 pub(crate) fn list_repeated(alloc: Global, out: &mut String, text: &str) -> Result<(), AllocError> {
     let fields = fields_in(alloc, text)?;
     for field in FIELDS {

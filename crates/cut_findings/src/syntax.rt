@@ -1,10 +1,10 @@
-//! Why a text is no JSON.
+//! Why a text is not JSON.
 
 use serde_json::{Error, Value};
 use std::alloc::{AllocError, Global};
 use std::fmt;
 
-/// What is seen if a text is no JSON.
+/// What is found at the place where a text is not JSON.
 #[derive(Clone, Copy)]
 enum Mistake {
     Empty,
@@ -107,13 +107,13 @@ impl fmt::Display for Place {
     }
 }
 
-/// Says if a text is no UTF-8: after this number of bytes.
+/// Says where a text is not UTF-8: after this number of bytes.
 pub(crate) fn explain_bytes(out: &mut String, text: &[u8], at: usize) -> Result<(), AllocError> {
     let place = Place::of_byte(text, at);
     writeln!(out, "{place}: the byte here is no UTF-8")
 }
 
-/// Says if a text is no JSON, by the error of the reader, and what stands there.
+/// Says where a text is not JSON, by the reader's error, and what is found there.
 pub(crate) fn explain_syntax(
     alloc: Global,
     out: &mut String,
@@ -129,7 +129,7 @@ pub(crate) fn explain_syntax(
     writeln!(out, "{place}: {mistake}")
 }
 
-/// What is seen where a text ends too early, and where.
+/// What is found if a text ends too early, and where.
 fn mistake_at_end(text: &[u8], error: &Error) -> (Place, Mistake) {
     let end = Place::of_byte(text, text.len());
     if text.iter().all(|byte| byte.is_ascii_whitespace()) {
@@ -141,7 +141,7 @@ fn mistake_at_end(text: &[u8], error: &Error) -> (Place, Mistake) {
     }
 }
 
-/// What is seen at the place of an error.
+/// What is found at the place of an error.
 fn mistake_by(alloc: Global, text: &[u8], error: &Error) -> Result<Mistake, AllocError> {
     let message = error.to_string(alloc)?;
     if message.as_str().starts_with("number out of range") {
@@ -158,7 +158,7 @@ fn mistake_by(alloc: Global, text: &[u8], error: &Error) -> Result<Mistake, Allo
     }
 }
 
-/// What is seen at a place of a text, by the byte there and the last one before it that is not blank.
+/// What is found at a place of a text, by the byte there and the last one before it that is not blank.
 fn mistake_at(text: &[u8], at: usize) -> Mistake {
     let before = byte_before(text, at);
     let first = text.get(at).copied().unwrap_or(0);

@@ -12,8 +12,8 @@ use serde_json::Value;
 use std::alloc::{AllocError, Global};
 use std::str;
 
-/// Lists what is wrong with a text as a plan, and the keys that stand in it more than once, a line for each. Of a text
-/// that is too long, no UTF-8 or no JSON that alone is said.
+/// Lists what is wrong with a text as a plan, and the keys that occur more than once, a line for each. If the text is
+/// too long, not UTF-8 or not JSON, only that is said.
 pub fn list_findings(alloc: Global, out: &mut String, text: &[u8]) -> Result<(), AllocError> {
     if text.len() > LONGEST_TEXT {
         let length = text.len();

@@ -1,4 +1,4 @@
-//! Keys that are no fields of a plan.
+//! Keys that are not fields of a plan.
 
 use crate::rules::{FIELDS, field_named, is_field_of};
 use crate::shown::Quoted;
@@ -7,7 +7,7 @@ use serde_json::{Map, Value};
 use std::alloc::{AllocError, Global};
 use strsim::osa_distance;
 
-/// Lists the keys that are no fields of a version, each with the field that may be meant.
+/// Lists the keys that are not fields of a version, each with the field that may be meant.
 pub(crate) fn list_unknown(
     alloc: Global,
     out: &mut String,
@@ -36,7 +36,7 @@ fn push_other_version(out: &mut String, field: Field, version: Version) -> Resul
     )
 }
 
-/// Adds that a key is no field of either version, with the nearest one.
+/// Adds that a key is not a field of either version, and the nearest field.
 fn push_unknown(
     alloc: Global,
     out: &mut String,

@@ -11,7 +11,7 @@ use cut_slots::{Parts, audit, lacks_passes, take_apart};
 use std::alloc::{AllocError, Global};
 use std::sync::ledger::Share;
 
-/// What became of the slots, and the share of the calls that all of them had.
+/// The reports of all slots, and the share of the calls that all of them had.
 #[derive(Drop)]
 struct EndedSlots<K: CallLedger> {
     slots: Vec<SlotReport>,

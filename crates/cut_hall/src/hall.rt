@@ -25,7 +25,7 @@ use std::marker::Model;
 use std::sync::ledger::Share;
 use std::sync::{Condvar, Mutex, Wait};
 
-/// The lock of a slot, where those wait who wait for a change in it, and what its workers share.
+/// The lock of a slot, the condition on which threads wait for its changes, and what its workers share.
 #[derive(Drop)]
 pub(crate) struct LockedSlot<D: Disk, K: CallLedger> {
     pub(crate) slot: Mutex<Slot<D, K>>,
@@ -178,7 +178,7 @@ impl<D: Disk + Drop, M: CallLedger, K: CallLedger> Hall<D, M, K> {
         ensures why { IfErr result (CanNotBegin (S.gives shelf.now plan)) }
         ensures pass { pass.new ≡ pass.old }
     {
-        // That its caller has entered this hall is all that matters of the pass here.
+        // Of the pass it matters only that it is one of this hall.
         let _ = pass;
         for (study, place) in self.places.iter().enumerate() {
             let mut slot = place.slot.lock(rt);
@@ -195,7 +195,7 @@ impl<D: Disk + Drop, M: CallLedger, K: CallLedger> Hall<D, M, K> {
         Err(SubmitFault::SlotsFull)
     }
 
-    /// Ends the work in every slot, and wakes those who wait there.
+    /// Ends the work in every slot, and wakes all threads that wait there.
     pub fn stop<R: Wait>(&self, rt: &R) {
         for place in &self.places {
             place.slot.lock(rt).stop();

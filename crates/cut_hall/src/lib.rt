@@ -2,12 +2,12 @@
 //!
 //! A [`Hall`] has slots for the books of studies. Threads come to it with a [`Pass`] each: they submit plans, work on
 //! the pieces of all studies, and wait for the lines of one. Pieces are drawn and trials counted on a board, without a
-//! lock; a book is asked under the lock of its slot. Who holds the lock of a slot may take that of the accounts, for as
-//! long as one call is counted, and never the other way round. What is done under a lock stands in `cut_slots`.
+//! lock; a book is asked under the lock of its slot. A thread that holds the lock of a slot may take the lock of the
+//! accounts while it counts one call, never the other way round. What is done under a lock is in `cut_slots`.
 //!
-//! Two ledgers count the calls of all books: in the one each pass has a share, in the other each slot. Their sums
-//! are equal, so that when the hall is closed all histories together are as long as what the passes made; and for
-//! each slot the trials that were counted on the board are compared with those that its history accepted.
+//! Two ledgers count the calls of all books: in the one each pass has a share, in the other each slot. Their sums are
+//! equal, so that when the hall is closed all histories together are as long as what the passes made; and for each slot
+//! the trials that were counted on the board are compared with those that its history accepted.
 #![tactic(auto)]
 
 mod close;

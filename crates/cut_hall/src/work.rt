@@ -182,7 +182,7 @@ impl<D: Disk + Drop, M: CallLedger, K: CallLedger> Hall<D, M, K> {
         draw_in(&slot, &self.board, &mut pass.seat, study)
     }
 
-    /// Runs a piece, and once more if memory ran out.
+    /// Runs a piece, and a second time if memory ran out.
     fn compute<R: Wait>(&self, rt: &R, alloc: Global, drawn: Drawn) -> Option<PieceResult>
         requires { drawn.study < self.now.slots }
         ensures { IfSome result (λ r. r.piece ≡ drawn.piece) }
@@ -242,7 +242,7 @@ impl<D: Disk + Drop, M: CallLedger, K: CallLedger> Hall<D, M, K> {
         handed
     }
 
-    /// Gives a piece of a study up, by its number from 0 in the study's division, as a worker does where memory for it
+    /// Gives up a piece of a study, by its number from 0 in the study's division, as a worker does where memory for it
     /// is refused: whoever asks for the line of its cell gets that fault, if the cell is not done. Returns whether it
     /// is noted, which is a call of the pass: not if there is no study or no such piece, or it was given up before.
     pub fn give_up<R: Wait>(&self, rt: &R, pass: &mut Pass<M>, study: u32, piece: u64) -> bool
@@ -254,7 +254,7 @@ impl<D: Disk + Drop, M: CallLedger, K: CallLedger> Hall<D, M, K> {
         self.lose(rt, pass, study, piece).is_ok()
     }
 
-    /// Notes that a piece is lost.
+    /// Records that a piece is lost.
     fn lose<R: Wait>(
         &self,
         rt: &R,

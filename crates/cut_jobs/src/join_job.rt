@@ -59,7 +59,7 @@ impl JoinJob<'_> {
     }
 }
 
-/// Says on the errors which of some files is refused, by its place from 1. This takes no memory.
+/// Reports on `errors` which file is refused, by its place from 1. This takes no memory.
 fn report_refused<E: Wire>(place: usize, files: &[&str], errors: &mut E)
     requires some { 1 ≤ place }
     requires few { place ≤ length files.now }
@@ -68,7 +68,7 @@ fn report_refused<E: Wire>(place: usize, files: &[&str], errors: &mut E)
     report_file(place, files[place - 1], errors);
 }
 
-/// Says on the errors that the file of this place and path is refused.
+/// Reports on `errors` that the file of this place and path is refused.
 fn report_file<E: Wire>(place: usize, path: &str, errors: &mut E)
     ensures { IsSent (file_line place path.now) (E.log errors.old) (E.log errors.new) }
 {
@@ -79,7 +79,7 @@ fn report_file<E: Wire>(place: usize, path: &str, errors: &mut E)
     }
 }
 
-/// Says a path on the errors, after the quote that it begins with, and ends the line.
+/// Writes the rest of the line on `errors`: the path after its opening quote.
 fn report_path<E: Wire>(path: &str, errors: &mut E)
     ensures { IsSent (flat_map quoted_char (chars path.now) ++ file_end) (E.log errors.old) (E.log errors.new) }
 {

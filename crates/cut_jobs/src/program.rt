@@ -50,7 +50,7 @@ where
     }
 }
 
-/// Ends as a command did.
+/// Reports a command's fault on `errors` and returns the exit status.
 fn end<E: Wire>(ended: Result<(), CliFault>, errors: &mut E) -> u8
     ensures { ReportsEnd ended (E.log errors.old) (E.log errors.new) result }
 {
@@ -60,7 +60,7 @@ fn end<E: Wire>(ended: Result<(), CliFault>, errors: &mut E) -> u8
     }
 }
 
-/// Ends with a fault, which is reported by its line. This takes no memory.
+/// Reports a fault by its line and returns its exit status. This takes no memory.
 fn end_fault<E: Wire>(fault: &CliFault, errors: &mut E) -> u8
     ensures { ReportsEnd (Err fault.now) (E.log errors.old) (E.log errors.new) result }
 {
@@ -109,7 +109,7 @@ pub fn end_unopened<E: Wire>(errors: &mut E) -> u8
     end_fault(&CliFault::Journal(JournalFault::Disk), errors)
 }
 
-/// Writes a text as far as the wire takes it.
+/// Writes a text, as far as the wire takes it.
 pub(crate) fn report<E: Wire>(text: &[u8], errors: &mut E)
     ensures { IsSent text.now (E.log errors.old) (E.log errors.new) }
 {

@@ -62,7 +62,7 @@ fn code_of(c: u32) -> ArrayString<8>
     text
 }
 
-/// A digit of a code in hex.
+/// A hexadecimal digit of a code.
 fn hex_digit(n: u32) -> char
     requires { n < 16 }
     ensures value { result ≡ digit_char n }

@@ -6,12 +6,13 @@ use std::alloc::AllocError;
 use std::fmt;
 use thiserror::Error;
 
-/// Why slips were not joined. Printed, it is its number, its name and the slip's number.
+/// Why slips were not joined. It is printed as its number, its name and the slip's number.
 #[derive(Debug, Drop, PartialEq, Eq, Error)]
 pub enum JoinFault {
     /// Memory ran out.
     Memory,
-    /// The slip of this number, from 1, is no piece, overlaps an earlier one, or has impossible totals.
+    /// The slip of this number, from 1, is not of a piece of the plan, overlaps an earlier slip, or has impossible
+    /// totals.
     BadSlip(u64),
     /// The journal is of another plan.
     OtherPlan,

@@ -16,7 +16,8 @@ use cut_plan::Plan;
 use std::alloc::Global;
 
 /// Appends the slips of a plan to its journal, joined: one for each greatest run of adjacent trials of a cell that some
-/// slip has, in ascending order, with the sums of the slips in it. Returns how many it wrote, which are all.
+/// slip has, in ascending order, with the sums of the slips in it. Returns the number of slips written, which is that
+/// of the joined slips.
 ///
 /// It is refused before any write if a slip is one that no ledger begins with, after those before it, and then if the
 /// journal is of another plan. Memory runs out only before the first write. After that a broken journal ends it, or a
@@ -50,7 +51,7 @@ pub fn join<D: Disk>(
     append_all(journal, &joined)
 }
 
-/// Appends slips one after another, and answers how many they are.
+/// Appends slips one after another, and returns their number.
 fn append_all<D: Disk>(journal: &mut Journal<D>, slips: &[Slip]) -> Result<u64, JoinFault>
     requires { All (λ s. HoldsAllTotals (version_of journal.old.plan.failing) s.totals) slips.now }
     ensures ends { EndsAppends result slips.now journal.old journal.new }
@@ -92,7 +93,7 @@ fn append<D: Disk>(journal: &mut Journal<D>, slip: Slip) -> Result<(), JoinFault
     }
 }
 
-/// The fault of an append of a slip, as a join answers it.
+/// The fault of a join for the fault of an append.
 fn fault_of(fault: JournalFault) -> JoinFault
     ensures { result ≡ fault_of fault }
 {

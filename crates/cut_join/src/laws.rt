@@ -5,8 +5,8 @@ ghost use Rattle.cut_join.specs.Laws.{JoinedGiveTheTable, JoinedHaveTheTrials};
 
 use cut_ledger::laws::true_slips_give_the_table;
 
-/// Slips with which a ledger can begin have the same trials once they are joined, and a ledger can begin with the
-/// joined ones. No two of these could be joined further.
+/// Joining slips with which a ledger can begin keeps their trials, and a ledger can begin with the joined slips. No two
+/// of these can be joined further.
 pub fn joined_slips_have_the_same_trials()
     ensures trials { JoinedHaveTheTrials }
     ensures good { JoinedAreGood }

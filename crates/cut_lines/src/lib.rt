@@ -1,7 +1,7 @@
 //! The lines of a study's table: the header, and the line of a cell with the sums over its trials.
 //!
-//! A table is comma-separated values, in decimal and without quotes, each line with a line feed. It is
-//! what the program prints, and what a server's replies carry, so its text stands here alone.
+//! A table is comma-separated values, in decimal and without quotes, each line with a line feed. The program prints it
+//! and a server's replies carry it, so its text is defined here alone.
 #![tactic(auto)]
 
 mod line;

@@ -55,9 +55,9 @@ struct Answered<N, T> {
 /// and writes how many slips there were, how many there are now, and how many trials of how many they hold.
 ///
 /// The new file is opened before anything is read, and made if there is none; it is given back at the end. So an old
-/// path that names it too is refused, as a file that does not open. The plan is read next, from its own file if it has
-/// one, which is only read and may be open. Each old file is opened when its turn comes, only read, and given back: so
-/// there may be more of them than a process can have open.
+/// path that names the same file is refused, as a file that can't be opened. The plan is read next, from its own file
+/// if it has one, which is only read and may be open. Each old file is opened when its turn comes, only read, and
+/// closed, so there may be more of them than a process can have open.
 ///
 /// The old files are read in their order, and their slips are judged as one list, each by its number in that list,
 /// before anything is done to the new file. Then a study is made there, which has to hold none, and gets one slip for

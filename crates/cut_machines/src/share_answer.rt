@@ -6,7 +6,7 @@ use arrayvec::ArrayString;
 use cut_share::Share;
 use itoa::Buffer;
 
-/// A line of an answer, which lies in the value itself.
+/// A line of an answer, kept in the value itself.
 pub(crate) type AnswerText = ArrayString<64>;
 
 /// The line that says how many trials a share has, all of which are held. This takes no memory.

@@ -6,15 +6,16 @@ use std::alloc::AllocError;
 use std::fmt;
 use thiserror::Error;
 
-/// Why slips were not moved to the study of an upgraded plan. Printed, it is its number, its name and the
-/// slip's number.
+/// Why slips were not moved to the study of an upgraded plan. It is printed as its number, its name and the slip's
+/// number.
 #[derive(Debug, Drop, PartialEq, Eq, Error)]
 pub enum MigrateFault {
     /// Memory ran out.
     Memory,
-    /// The plan to be upgraded is no plan of version 1.
+    /// The plan to be upgraded is not of version 1.
     NotVersion1,
-    /// The slip of this number, from 1, is no piece, overlaps an earlier one, or has impossible totals.
+    /// The slip of this number, from 1, is not of a piece of the plan, overlaps an earlier slip, or has impossible
+    /// totals.
     BadSlip(u64),
     /// The journal is not of the plan's upgrade.
     OtherPlan,

@@ -26,8 +26,8 @@ use cut_trial::{TrialFault, run_piece};
 use std::alloc::Global;
 
 /// Moves the slips of a study of version 1 to the journal of its plan's upgrade: runs the trials of each slip again for
-/// the upgrade, and keeps the result if the numbers that both versions have are those of the slip. Returns how many
-/// slips it moved, which are all.
+/// the upgrade, and keeps the result if the numbers that both versions have are those of the slip. Returns the number
+/// of slips moved, `slips.len()`.
 ///
 /// It is refused before any write if the plan is not of version 1, then if a slip is one that no ledger begins with,
 /// and then if the journal is not that of the upgrade. After that the first slip whose sums are not those of its trials

@@ -154,8 +154,8 @@ fn plan_word<'a>(alloc: Global) -> Arg<'a>
     Arg::new(alloc, "plan").value_name("PLAN").help(PLAN_HELP)
 }
 
-/// The words that name the files of checkpoints, which may stand between options. How many there are at most, clap would say of
-/// those that stand side by side.
+/// The words that name the files of checkpoints, also with options between them. Their number is not limited here,
+/// since clap would count only those that stand side by side.
 fn files_word<'a>(alloc: Global) -> Arg<'a>
     ensures rule { rule_of result ≡ files_rule }
     ensures local { result.global ≡ false }

@@ -12,7 +12,7 @@ use std::alloc::{AllocError, Global};
 /// What `--version` prints after the program's name: its version, and that of the kit that it is proved with.
 const VERSION: &str = "0.9.0 (proved with rattle-kit-13f)";
 
-/// What follows the help of the program: if a plan is read from, and where to read more.
+/// What follows the help of the program: where a plan is read from, and where to read more.
 const GUIDE: &str =
     "A plan is read from a file that is named, or from standard input. See docs/GUIDE.md.";
 

@@ -14,8 +14,8 @@ use std::sync::Wait;
 /// Why a study's table was not written to its end: a write failed, or the next line did not come.
 pub(crate) type EmitFault = RowsFault<NextRowFault>;
 
-/// The lines of an opened study, each as soon as it comes. While one does not, this thread works on the study's
-/// pieces too. Each line is one call that the pass made.
+/// The lines of an opened study, each as soon as it is there. While it waits, this thread works on the study's pieces,
+/// too. Each line is one call that the pass made.
 #[derive(Drop)]
 pub(crate) struct StudyRows<'a, D: Disk, M: CallLedger, K: CallLedger, G, R> {
     pub(crate) rt: &'a R,
@@ -97,7 +97,7 @@ where
     emitted(result, line.sent())
 }
 
-/// How the writing of a table ended, by how the sending of its lines did, and by how many bytes were sent then.
+/// The result of writing a table, by the result of sending its lines and the number of bytes sent.
 fn emitted(outcome: Result<(), EmitFault>, sent: u64) -> Result<u64, EmitFault>
     ensures { result ≡ emitted outcome sent }
 {

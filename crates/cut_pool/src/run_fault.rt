@@ -8,11 +8,12 @@ use std::alloc::AllocError;
 use std::fmt;
 use thiserror::Error;
 
-/// Why a study was not run to its end. Printed, it is its number, its name, and the number of the slip or of the
-/// bytes that were sent.
+/// Why a study was not run to its end. It is printed as its number, its name, and the number of the slip or of the
+/// bytes sent.
 #[derive(Clone, Copy, Debug, PartialEq, Eq, Error)]
 pub enum RunFault {
-    /// The slip of this number, from 1, is no piece, overlaps an earlier one, or has impossible totals.
+    /// The slip of this number, from 1, is not of a piece of the plan, overlaps an earlier slip, or has impossible
+    /// totals.
     BadSlip(u64),
     /// The disk failed in the append of a slip.
     Checkpoint,
@@ -20,8 +21,8 @@ pub enum RunFault {
     Write(Sent),
     /// Memory ran out.
     WorkMemory,
-    /// What was counted on the board and what the book's history accepted differ, trials are lacking once all lines
-    /// are there, or calls could be counted no further.
+    /// The board's count and the trials that the book's history accepted differ, trials are missing though all lines
+    /// are there, or no more calls could be counted.
     AuditMismatch,
 }
 

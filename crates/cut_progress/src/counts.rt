@@ -63,7 +63,7 @@ impl Counts {
         };
     }
 
-    /// Notes that the study has ended, or that none begins.
+    /// Records that the study has ended, or that none begins.
     pub(crate) fn end(&mut self)
         ensures first { self.new.first ≡ self.old.first }
         ensures held { self.new.held ≡ self.old.held }
@@ -102,7 +102,7 @@ impl Counts {
         }
     }
 
-    /// The line of the study once it has been run for this many seconds.
+    /// The line of progress after this many seconds.
     pub(crate) fn line(&self, seconds: u64) -> ProgressLine
         ensures { result ≡ line_of self.now seconds }
     {

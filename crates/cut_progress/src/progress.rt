@@ -21,7 +21,7 @@ impl Progress {
         }
     }
 
-    /// Notes that the study has ended, or that none begins.
+    /// Records that the study has ended, or that none begins.
     pub(crate) fn end<R: Wait>(&self, rt: &R) {
         self.counts.lock(rt).end();
         self.changed.notify_all();

@@ -5,7 +5,7 @@ ghost use Rattle.cut_progress.specs.Lines.{left_words, line_text};
 use arrayvec::ArrayString;
 use itoa::Buffer;
 
-/// The text of a line, which lies in the value itself.
+/// The text of a line, kept in the value itself.
 pub type LineText = ArrayString<128>;
 
 /// A line of progress: what is printed of a study while it is run.
@@ -38,7 +38,7 @@ impl ProgressLine {
     }
 }
 
-/// Adds some words and a number in decimal.
+/// Appends some words and a number in decimal.
 fn push_number(text: &mut LineText, words: &str, number: u64)
     requires { length text.old.bytes + length words.now + 20 ≤ 128 }
     ensures text { text.new.bytes ≡ text.old.bytes ++ words.now ++ decimal number }

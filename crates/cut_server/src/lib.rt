@@ -4,7 +4,7 @@
 //! hall's report; [`serve_io`] writes how many trials the studies of it accepted, and [`serve_at`] does so for the
 //! connections of a [`Socket`], which is a socket at a path. A [`FolderShelf`] keeps each study in a file of a folder.
 //!
-//! Nothing is claimed of waiting: not that a connection comes, nor that a session ends.
+//! No contract says that a wait ends: neither that a connection comes, nor that a session ends.
 #![tactic(auto)]
 
 mod capacity;

@@ -31,7 +31,7 @@ pub trait Listener<W> {
     fn accept(&mut self) -> Result<W, ListenFault>
         ensures { calls self.new ≡ called result (calls self.old) };
 
-    /// Turns those away who wait for their connection to be taken, and all who come later.
+    /// Refuses the clients that wait for a connection, and all later ones.
     fn close(&mut self)
         ensures { calls self.new ≡ calls self.old };
 }
@@ -60,7 +60,7 @@ trait ServerHall<D: Disk, M: CallLedger> {
         requires { pass.old.hall ≡ id_of self.now }
         ensures { pass.new.hall ≡ pass.old.hall };
 
-    /// Serves a client, whichever way its session ends.
+    /// Serves a client until its session ends.
     fn serve_with<S, W, R>(
         &self,
         rt: &R,

@@ -18,7 +18,7 @@ use cut_wires::{Line, Sent, Wire};
 use std::alloc::Global;
 use std::sync::Wait;
 
-/// How a session goes on after requests.
+/// What a session does after requests.
 #[derive(Clone, Copy)]
 pub(crate) enum Continuation {
     /// It takes the next one.

@@ -20,10 +20,10 @@ pub enum SessionEnd {
     Write(Sent),
 }
 
-/// What can end a session. Printed, it is its number and its name.
+/// A fault that ends a session. It is printed as its number and its name.
 #[derive(Clone, Copy, Debug, PartialEq, Eq, Error)]
 pub enum SessionFault {
-    /// A growth of memory was refused to the reader of requests.
+    /// Memory ran out for reading requests.
     Memory,
     /// A read of the wire failed.
     Read,
@@ -31,7 +31,7 @@ pub enum SessionFault {
     Truncated,
     /// There are more than 1,000,000 requests.
     TooManyRequests,
-    /// Something that is no request stands in the input.
+    /// The input has something that is not a request.
     Stream(StreamFault),
 }
 

@@ -11,7 +11,7 @@ use cut_journal::{Journal, JournalFault};
 use cut_outcome::Gate;
 use std::sync::Wait;
 
-/// Appends the results of tasks to a journal of their plan, in order, up to the first that it doesn't take.
+/// Appends the results of tasks to a journal of their plan, in order, up to the first that it refuses.
 pub(crate) fn append_all<D: Disk, G: Gate, R: Wait>(
     rt: &R,
     gate: &G,
@@ -57,7 +57,7 @@ fn append<D: Disk, G: Gate, R: Wait>(
     }
 }
 
-/// The fault of an append, as a run of a share reports it.
+/// The fault of a share's run for the fault of an append.
 fn fault_of(fault: JournalFault) -> ShareFault
     ensures { result ≡ fault_of fault }
 {

@@ -6,14 +6,15 @@ use std::alloc::AllocError;
 use std::fmt;
 use thiserror::Error;
 
-/// Why a share was not run to its end. Printed, it is its number, its name and the slip's number.
+/// Why a share was not run to its end. It is printed as its number, its name and the slip's number.
 #[derive(Debug, Drop, PartialEq, Eq, Error)]
 pub enum ShareFault {
-    /// A growth of memory was refused before any piece was run.
+    /// Memory ran out before any piece was run.
     Memory,
     /// The journal is of another plan.
     OtherPlan,
-    /// The slip of this number, from 1, is no piece, overlaps an earlier one, or has impossible totals.
+    /// The slip of this number, from 1, is not of a piece of the plan, overlaps an earlier slip, or has impossible
+    /// totals.
     BadSlip(u64),
     /// Memory ran out for a piece, twice.
     WorkMemory,

@@ -1,6 +1,6 @@
 //! The share of one machine in a study.
 //!
-//! Several machines run the study of one plan, each its own [`Share`] of the trials.
+//! Several machines run the study of one plan, each a [`Share`] of the trials.
 #![tactic(auto)]
 
 mod append;

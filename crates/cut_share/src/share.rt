@@ -7,10 +7,10 @@ ghost use Rattle.cut_share.specs.Blocks.{block_of};
 use cut_outcome::Piece;
 use cut_plan::{MOST_REPEATS, Plan};
 
-/// The most shares of a study.
+/// How many shares a study may have.
 const MOST_SHARES: u32 = 100_000;
 
-/// What one of several machines runs of a plan: a share of its trials.
+/// The part of a plan's trials that one of several machines runs.
 ///
 /// The trials of each cell are cut into blocks, which are numbered through all cells. Of N shares, share I has the
 /// blocks whose number leaves I - 1 on division by N.
@@ -54,8 +54,8 @@ impl Share {
         self.has_block(block_of(plan, self.block_size, trial))
     }
 
-    /// The first trials of a piece of a plan, up to the end of the block of its first trial: it has all of them or
-    /// none.
+    /// The first trials of a piece of a plan, up to the end of the block of its first trial. The share has all of them
+    /// or none.
     pub(crate) fn block_at(self, plan: &Plan, piece: Piece) -> Piece
         requires { IsTrue (is_piece plan.now piece) }
         ensures first { result.first ≡ piece.first }

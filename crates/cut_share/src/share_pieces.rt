@@ -7,7 +7,8 @@ use crate::Share;
 use cut_outcome::Piece;
 use cut_plan::{Plan, plans_are_accepted};
 
-/// The pieces of a share that are left in some pieces of its plan: what is left of one, and those after it.
+/// An iterator over the pieces of a share within pieces of its plan: what is left of the current one, and those after
+/// it.
 #[derive(Clone, Copy)]
 pub(crate) struct SharePieces<'a> {
     plan: &'a Plan,

@@ -22,7 +22,7 @@ use std::alloc::Global;
 use std::sync::Wait;
 use std::thread::Threads;
 
-/// How many pieces there are in a batch for each worker.
+/// How many pieces of a batch each worker has.
 const PIECES_A_WORKER: usize = 8;
 
 /// The share of a plan that one machine is to run, over the slips that its journal was opened with.

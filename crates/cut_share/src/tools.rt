@@ -27,7 +27,7 @@ impl<G: Gate> Tools<'_, G> {
     ghost use Rattle.std.specs.Prelude.{All, IfSome};
     ghost use Rattle.cut_share.specs.inside.Tasks.{IsRun, pieces_of};
 
-    /// Runs the piece of each task, in as many threads as there may be and can be made. If memory runs out, twice for a
+    /// Runs the piece of each task, in as many threads as are allowed and can be made. If memory runs out twice for a
     /// piece, its task has no result.
     pub(crate) fn run_all<R: Threads + Wait + Sync>(&self, rt: &R, tasks: &mut [Task])
     where

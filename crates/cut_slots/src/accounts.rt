@@ -3,12 +3,12 @@ ghost use Rattle.std.specs.Prelude.{◌≡◌, ◌==◌, ◌+◌, ◌-◌, ◌^�
 use crate::{Blanks, CallLedger};
 use std::sync::ledger::{Book, Share};
 
-/// Both ledgers have counted 2^64 - 1 calls, and count no more.
+/// Both ledgers have counted 2^64 - 1 calls and are full.
 #[derive(Clone, Copy)]
 pub struct Full;
 
-/// How many calls were made of all books of a hall: as the passes have them, which made them, and as the slots
-/// have them, which keep them. Both are one number.
+/// How many calls all books of a hall had: as the passes count those that they made, and as the slots count those that
+/// they keep. Both are the same number.
 #[derive(Drop)]
 pub struct Accounts<M: CallLedger, K: CallLedger> {
     count: u64,
@@ -45,7 +45,7 @@ impl<M: CallLedger, K: CallLedger> Accounts<M, K> {
         self.count == u64::MAX
     }
 
-    /// Counts one call more, which the one share made and the other keeps.
+    /// Counts one more call, which one share made and the other keeps.
     pub fn enter(&mut self, made: &mut Share<M>, kept: &mut Share<K>) -> Result<(), Full>
         requires made { 0 < made.old.parts }
         requires kept { 0 < kept.old.parts }
@@ -72,7 +72,7 @@ impl<M: CallLedger, K: CallLedger> Accounts<M, K> {
         Ok(())
     }
 
-    /// Takes back the one that was counted last, since nothing came of it.
+    /// Takes back the last call, which had no effect.
     pub fn take_back(&mut self, made: &mut Share<M>, kept: &mut Share<K>)
         requires made { 0 < made.old.amount }
         requires kept { 0 < kept.old.amount }

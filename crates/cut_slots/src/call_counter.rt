@@ -3,13 +3,13 @@ ghost use Rattle.std.specs.Prelude.{◌≡◌, ◌+◌, ◌<◌, MatchResult};
 use crate::{CallLedger, Full};
 use std::sync::ledger::Share;
 
-/// Where the calls of a slot's book are counted, as the slot sees it: the accounts of its hall, which other threads
-/// count in too. Each call counts once as made and once as kept.
+/// What counts the calls of a slot's book: the accounts of its hall, in which other threads count, too. Each call
+/// counts once as made and once as kept.
 pub trait CallCounter<M: CallLedger, K: CallLedger> {
     /// Whether no further call can be counted.
     fn is_full(&self) -> bool;
 
-    /// Counts one call more, which the one share made and the other keeps.
+    /// Counts one more call, which one share made and the other keeps.
     fn count(&self, made: &mut Share<M>, kept: &mut Share<K>) -> Result<(), Full>
         requires made { 0 < made.old.parts }
         requires kept { 0 < kept.old.parts }
@@ -19,7 +19,7 @@ pub trait CallCounter<M: CallLedger, K: CallLedger> {
             (λ _. kept.new.amount ≡ kept.old.amount + 1) (λ _. kept.new.amount ≡ kept.old.amount) }
         ensures parts { (made.new.parts ≡ made.old.parts) × (kept.new.parts ≡ kept.old.parts) };
 
-    /// Takes back the one that was counted last, since nothing came of it.
+    /// Takes back the last call, which had no effect.
     fn take_back(&self, made: &mut Share<M>, kept: &mut Share<K>)
         requires made { 0 < made.old.amount }
         requires kept { 0 < kept.old.amount }

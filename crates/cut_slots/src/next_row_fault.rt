@@ -5,16 +5,16 @@ use cut_faults::FaultCode;
 use std::fmt;
 use thiserror::Error;
 
-/// Why a hall gave no line of a study. Printed, it is its number and its name.
+/// Why a hall gave no line of a study. It is printed as its number and its name.
 #[derive(Clone, Copy, Debug, PartialEq, Eq, Error)]
 pub enum NextRowFault {
     /// The slot has no book, or one of another plan or over other slips.
     AuditMismatch,
     /// The study's checkpoint failed.
     Checkpoint,
-    /// A growth of memory was refused, or a piece is lost.
+    /// Memory ran out, or a piece is lost.
     WorkMemory,
-    /// The hall was stopped, or its calls can be counted no further.
+    /// The hall was stopped, or can count no more calls.
     Stopped,
 }
 

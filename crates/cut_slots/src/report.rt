@@ -4,8 +4,8 @@ ghost use Rattle.cut_slots.specs.Report.{calls_recorded, accepted_recorded};
 use cut_book::History;
 use std::marker::Model;
 
-/// What became of a slot. Contracts see the history of its study, if it had one, and whether every trial of it
-/// was held at the end.
+/// The end of a slot. Contracts see the history of its study, if it had one, and whether every trial of it was held at
+/// the end.
 #[derive(Drop)]
 pub struct SlotReport {
     history: Option<History>,
@@ -71,7 +71,7 @@ impl SlotReport {
     }
 }
 
-/// What became of a hall, slot by slot. Contracts see it as the list.
+/// The end of a hall, slot by slot. Contracts see a list.
 #[derive(Drop)]
 pub struct Report {
     slots: Vec<SlotReport>,

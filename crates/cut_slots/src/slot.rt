@@ -151,7 +151,7 @@ impl<D: Disk + Drop, K: CallLedger> Slot<D, K> {
         }
     }
 
-    /// Notes in the book that a piece is lost.
+    /// Records in the book that a piece is lost.
     pub fn lose<M: CallLedger, C: CallCounter<M, K>>(
         &mut self,
         counter: &C,
@@ -380,7 +380,7 @@ impl<D: Disk + Drop, K: CallLedger> Slot<D, K> {
         self.stopped
     }
 
-    /// Ends the slot: what became of it, and the share of its calls.
+    /// Ends the slot, and returns its report and the share of its calls.
     pub fn end(self) -> (SlotReport, Share<K>)
         ensures part { result.1.parts ≡ 1 }
         ensures calls { result.1.amount ≡ calls_recorded result.0.history }

@@ -10,7 +10,7 @@ use cut_disks::Disk;
 use cut_outcome::{Piece, PieceResult};
 use std::sync::ledger::Share;
 
-/// How a worker goes on after a turn.
+/// What a worker does after a turn.
 #[derive(Clone, Copy)]
 pub enum Next {
     /// With the next piece of the study.
@@ -140,7 +140,7 @@ pub fn next_after(outcome: Result<(), CallFault>) -> Next
     }
 }
 
-/// What an attempt gives, or where it gives nothing, what a second one does.
+/// The result of an attempt, or of a second one if the first has none.
 pub fn twice<T, F: FnMut() -> Option<T>>(attempt: &mut F) -> Option<T>
     requires first { F.pre attempt.old }
     requires second { (given : Option T) (between : F) → F.step attempt.old given between → F.pre between }

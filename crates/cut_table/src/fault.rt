@@ -7,7 +7,7 @@ use std::alloc::AllocError;
 use std::fmt;
 use thiserror::Error;
 
-/// Why the line of a cell was not given. Printed, it is its number, its name and the cell.
+/// Why the line of a cell was not given. It is printed as its number, its name and the cell.
 #[derive(Debug, Drop, Error)]
 pub enum RowFault {
     /// Memory ran out.
@@ -53,7 +53,7 @@ impl From<AllocError> for RowFault {
     }
 }
 
-/// Why a table was not written to its end. Printed, it is its number, its name and what it carries.
+/// Why a table was not written to its end. It is printed as its number, its name and the cell or the count of bytes.
 #[derive(Debug, Drop, Error)]
 pub enum TableFault {
     /// A growth of memory was refused, after the wire had taken this many bytes.

@@ -75,7 +75,7 @@ pub fn emit_table<W: Wire>(alloc: Global, ledger: &Ledger, wire: &mut W) -> Resu
     emitted(result, line.sent())
 }
 
-/// How the writing of a table ended, by how the sending of its rows did, and by how many bytes were sent then.
+/// The result of writing a table, by the result of sending its rows and the number of bytes sent.
 fn emitted(outcome: Result<(), RowsFault<RowFault>>, sent: u64) -> Result<(), TableFault>
     ensures { result ≡ emitted outcome sent }
 {

@@ -39,7 +39,7 @@ impl<'a> Alerts<'a> {
         }
     }
 
-    /// Takes the edges that these roles alert in place of the last ones.
+    /// Replaces the alerts by those that these roles raise.
     pub fn alert(&mut self, roles: &Roles) -> Result<(), AllocError>
         requires { length roles.now.roles ≡ self.old.study.plan.now.nodes }
         ensures edges { OnOk result

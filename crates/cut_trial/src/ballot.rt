@@ -36,7 +36,7 @@ impl Ballot {
         }
     }
 
-    /// Forgets all votes, and keeps the memory of its table.
+    /// Removes all votes, and keeps the memory of the table.
     pub fn clear(&mut self)
         ensures { HasCounted self.new [] }
     {

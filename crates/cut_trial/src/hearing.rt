@@ -5,7 +5,7 @@ ghost use Rattle.cut_detector.specs.Proposal.{proposal_of};
 use cut_detector::{Detector, Step};
 use cut_draws::DeliveryOrder;
 
-/// Delivers the edges to a process in this order, up to its proposal.
+/// Delivers the edges to a process in this order, until it proposes.
 pub(crate) fn hear_all(detector: &mut Detector<'_>, order: &DeliveryOrder)
     requires within { IsTrue (are_edges_of detector.old.rule.k detector.old.layout.nodes (map
         (λ x. x.edge) order.now)) }

@@ -30,7 +30,7 @@ impl<'a> TrialInput<'a> {
     }
 }
 
-/// Rings are always a layout, of whatever study they are. It does nothing that is seen.
+/// For the proof: the rings of every study are a layout.
 pub(crate) fn rings_are_a_layout(rings: &Rings)
     ensures { IsLayout rings.now }
 {

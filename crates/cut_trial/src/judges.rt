@@ -32,7 +32,7 @@ use cut_plan::{Cell, Version};
 use cut_receivers::{Finding, Findings, Places, Receivers, Trial};
 use std::alloc::{AllocError, Global};
 
-/// What judges the receivers of a cell's trials, in memory that all trials share.
+/// Judges the receivers of a cell's trials, in memory that all trials share.
 #[derive(Drop)]
 pub(crate) struct Judges<'a> {
     replays: Replay<'a>,
@@ -41,8 +41,7 @@ pub(crate) struct Judges<'a> {
     members: Vec<u16>,
 }
 
-/// What is the same for all receivers of a trial: its cast, its alerts as receivers hear them, and which nodes are
-/// targets.
+/// What all receivers of a trial have in common: the roles, the alerts, and which nodes are targets.
 #[derive(Clone, Copy)]
 struct Round<'a> {
     cast: Cast<'a>,
@@ -106,7 +105,7 @@ impl<'a> Judges<'a> {
         Ok(())
     }
 
-    /// Judges all receivers, of which none has been judged.
+    /// Judges all receivers, none of which has been judged yet.
     fn judge_receivers(
         &mut self,
         alloc: Global,
@@ -183,7 +182,7 @@ impl<'a> Judges<'a> {
         Ok(())
     }
 
-    /// Judges up to four receivers from a place on.
+    /// Judges up to four receivers, beginning at a place.
     fn judge_four(
         &mut self,
         draws: &mut Draws,
@@ -325,7 +324,7 @@ fn count_set(flags: &[bool]) -> usize
     flags.iter().filter(|flag| **flag).count()
 }
 
-/// Four receivers from a place on, where the last one stands for those that are not there.
+/// Four receivers, beginning at a place. The last receiver stands in for those that are missing.
 fn four_from(receivers: &[u16], first: usize) -> [u16; 4]
     requires some { first < length receivers.now }
     ensures each { (i : ℕ) → first + i < length receivers.now → i < 4

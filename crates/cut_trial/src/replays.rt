@@ -10,8 +10,8 @@ use cut_draws::{DeliveryOrder, Draws};
 use cut_plan::Cell;
 use std::alloc::{AllocError, Global};
 
-/// What replays the trials of a cell at one receiver after another: the detector and the order of deliveries, whose
-/// memory all receivers share.
+/// Replays the trials of a cell for one receiver after another, with a detector and an order of deliveries whose memory
+/// all receivers share.
 #[derive(Drop)]
 pub(crate) struct Replay<'a> {
     pub detector: Detector<'a>,
@@ -32,7 +32,7 @@ impl<'a> Replay<'a> {
         })
     }
 
-    /// Lets a receiver hear the alerts in its own order, up to its proposal.
+    /// Delivers the alerts to a receiver in its own order, until it proposes.
     pub fn hear(
         &mut self,
         draws: &mut Draws,

@@ -32,7 +32,7 @@ pub fn run_trial(
     trials.run(trial)
 }
 
-/// What runs the trials of a cell, one after another, in memory that they share.
+/// Runs the trials of a cell, one after another, in memory that they share.
 #[derive(Drop)]
 pub(crate) struct Trials<'a> {
     pub alerts: Alerts<'a>,
@@ -46,7 +46,7 @@ pub(crate) struct Trials<'a> {
 }
 
 impl<'a> Trials<'a> {
-    /// What runs the trials of this cell.
+    /// A runner for the trials of this cell.
     pub fn new(alloc: Global, study: TrialInput<'a>, cell: Cell) -> Result<Trials<'a>, AllocError>
         requires { IsCellOf study.plan.now cell }
         ensures study { IfOk result (λ t. t.alerts.study.plan.now ≡ study.entry.plan.now) }

@@ -14,8 +14,8 @@ use cut_outcome::{Totals, Verdict, quorum};
 use cut_plan::{Cell, Plan, Version};
 use std::alloc::{AllocError, Global};
 
-/// What the receivers of a trial were judged to be so far. Those that proposed exactly the targets are counted apart
-/// from the ballot, so that no list is made for them.
+/// The verdicts on a trial's receivers so far. Proposals of exactly the targets are counted beside the ballot, so that
+/// no list is made for them.
 #[derive(Debug, Drop)]
 pub(crate) struct VerdictCounts {
     pub version: Version,
@@ -46,7 +46,7 @@ impl VerdictCounts {
         }
     }
 
-    /// Forgets all receivers, for another trial.
+    /// Begins again, for another trial.
     pub(crate) fn clear(&mut self)
         ensures none { (a : Assignment) → IsJudging a self.new [] }
         ensures version { self.new.version ≡ self.old.version }

@@ -81,7 +81,7 @@ fn has_other(members: &[u16], roles: &Roles) -> bool
     members.iter().any(|m| !is_target(*m, roles))
 }
 
-/// Whether a number is that of a target, which one past the last process is not.
+/// Whether a number is that of a target; numbers past the last process are not.
 fn is_target(process: u16, roles: &Roles) -> bool
     ensures { result ≡ is_target roles.now process }
 {

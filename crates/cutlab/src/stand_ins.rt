@@ -13,7 +13,7 @@ pub(crate) struct StandIns {
 }
 
 impl StandIns {
-    /// Opens one for each stream that is closed, in the order of their numbers, before any other file is opened.
+    /// Opens `/dev/null` for each closed stream, in the order of their numbers, before any other file is opened.
     pub(crate) fn open(rt: &HostRuntime) -> io::Result<StandIns> {
         let input = stand_in(rt, &rt.stdin())?;
         let output = stand_in(rt, &rt.stdout())?;

@@ -10,7 +10,7 @@ use Rattle.cut_book.specs.History.{HistoryValue, IsLegalHistory}
 abbrev pub lost_call : ℕ → Call
 lost_call piece = Lose piece
 
--- the calls of entries, with the losses from number n on, each if it came
+-- the calls of entries, with the losses from number n on, each at its place
 abbrev pub calls_from : ℕ → List Entry → List ℕ → List Call
 calls_from n [] losses = map lost_call (drop n losses)
 calls_from n (e ∷ es) losses =
