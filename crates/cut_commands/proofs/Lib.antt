@@ -3,6 +3,8 @@ pub mod RunLemmas
 pub mod InputLemmas
 pub mod Sources
 pub mod StudyLemmas
+pub mod NewStudies
+pub mod MigrateFiles
 pub mod MigrateLemmas
 pub mod ExplainLemmas
 pub mod AskLemmas

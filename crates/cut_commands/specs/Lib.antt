@@ -4,6 +4,7 @@ pub mod Task
 pub mod Study
 pub mod Run
 pub mod Ask
+pub mod NewStudy
 pub mod Migrate
 pub mod Status
 pub mod Explain

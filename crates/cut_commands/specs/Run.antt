@@ -124,6 +124,11 @@ IsUnread place (Ok value) old new = ⊥
 IsUnread place (Err fault) old new =
     (cause : OpenFault) × MayNotRead cause place × (fault ≡ fault_of_files cause) × (new ≡ old)
 
+-- the plan has a file, which was not read
+abbrev pub HasUnread : Option Place → Result ⊤ CliFault → WireLog → WireLog → Type 0
+HasUnread None result old new = ⊥
+HasUnread (Some place) result old new = IsUnread place result old new
+
 -- how a command ends that read a text from a file: the wire gave nothing, and was written to as an answer says to this
 -- text, all of which was read. So no read of the wire fails
 pub record EndsOnText (answering : List ℕ → Bool → Result ⊤ CliFault → List ℕ → Type 0) (place : Place)

@@ -1,60 +1,21 @@
-ghost use Rattle.std.specs.Prelude.{◌≡◌, true, None, string_bytes, Ok, IfOk, IfErr};
-ghost use Rattle.cut_disks.specs.Log.{IsKnown, on};
-ghost use Rattle.cut_journal.specs.Opening.{IsReopenFault, IsOpeningFaultOf, MayNotClaim, is_unclaimed};
-ghost use Rattle.cut_journal.specs.Reading.{reading};
-ghost use Rattle.cut_commands.specs.Migrate.{EndsMigrate, EndsMove, IsHeld, StaysBeside, migrate_task, moved_text};
-ghost use Rattle.cut_commands.specs.Run.{EndsCommand, EndsCommandFrom, source_place};
+ghost use Rattle.std.specs.Prelude.{◌≡◌, None, IfErr, IfOk, string_bytes};
+ghost use Rattle.cut_disks.specs.Log.{Goes};
+ghost use Rattle.cut_journal.specs.Opening.{IsReopened};
+ghost use Rattle.cut_plan.specs.Targets.{upgraded};
+ghost use Rattle.cut_commands.specs.Migrate.{EndsMigrate, EndsMove, MigrateDisks, MigratesFrom, StaysBeside, moved_text};
+ghost use Rattle.cut_commands.specs.Run.{source_place};
+ghost use Rattle.cut_commands.specs.inside.Migrate.{EndsFilling, Fills, IsNewJournal, IsOldRefused, WritesCount};
 
 use crate::CliFault;
 use crate::input::PlanSource;
 use crate::output::{push_line, write_answer};
 use cut_disks::Disk;
 use cut_files::{Files, MemoryFiles, Mode};
-use cut_journal::{Journal, JournalFault};
+use cut_journal::Journal;
 use cut_ledger::Slip;
 use cut_plan::Plan;
 use cut_wires::Wire;
 use std::alloc::{AllocError, Global};
-
-/// Reads a plan of version 1 from a wire, moves the slips of its study from one disk to another, as a study of
-/// the plan's upgrade, and writes how many there are.
-///
-/// The old disk is read first, then a study without slips is made on the new one, and then the slips are moved: a
-/// fault of an earlier step is reported before one of a later. That the plan is of version 2 is found in the last
-/// step. The trials of each slip are run again: what the new disk has are the sums that they give for the upgrade,
-/// and the first slip that is not true ends it. The old disk is only read. What is read and written, and each fault
-/// of the wire, is as in `run_io`.
-pub fn migrate_io<W, O, N>(alloc: Global, wire: &mut W, old: O, new: N) -> Result<(), CliFault>
-where
-    W: Wire,
-    O: Disk + Drop,
-    N: Disk + Drop,
-    ensures { EndsCommand (migrate_task (O.log old) (N.log new)) (W.log wire.old) (W.log wire.new) result }
-{
-    migrate_from(alloc, PlanSource::<MemoryFiles>::Input, wire, old, new)
-}
-
-/// The same by a plan that is read from a wire or a file.
-fn migrate_from<F, W, O, N>(
-    alloc: Global,
-    source: PlanSource<'_, F>,
-    wire: &mut W,
-    old: O,
-    new: N,
-) -> Result<(), CliFault>
-where
-    F: Files,
-    W: Wire,
-    O: Disk + Drop,
-    N: Disk + Drop,
-    ensures { EndsCommandFrom (migrate_task (O.log old) (N.log new)) (source_place F.log source.entry)
-        (W.log wire.old) (W.log wire.new) result }
-{
-    let plan = source.read_plan(alloc, wire)?;
-    let count = move_study(alloc, &plan, old, new)?;
-    let text = moved_text(alloc, count)?;
-    write_answer(wire, text.as_bytes())
-}
 
 /// The files of a migration.
 #[derive(Clone, Copy, Debug)]
@@ -67,10 +28,35 @@ pub struct MigratedFiles<'a> {
     pub plan: Option<&'a str>,
 }
 
-/// Moves a study as `migrate_io` does, from the file at one path to that at another.
+/// Both disks of a migration, and how a step of it ended.
+#[derive(Drop)]
+struct Migrated<O, N, T> {
+    old: O,
+    new: N,
+    ended: Result<T, CliFault>,
+}
+
+/// The disk of a new study, and how many slips were moved there, or why not all were.
+#[derive(Drop)]
+struct Filled<N> {
+    disk: N,
+    count: Result<u64, CliFault>,
+}
+
+/// Reads a plan of version 1, moves the slips of its study from the file at one path to that at another, as a study of
+/// the plan's upgrade, and writes how many there are.
 ///
-/// Both files are opened before anything is read, the old one first, and shut at the end. The new one is made if there
-/// is none. One path can't be both. The file of a plan is read where the wire would be read.
+/// Both files are opened before anything is read, the old one first, and closed at the end. The new one is created if
+/// there is none. One path can't be both. The file of a plan is read while both are open.
+///
+/// The old disk is read first, then a study without slips is made on the new one, and then the slips are moved: a fault
+/// of an earlier step is reported before one of a later. That the plan is of version 2 is found in the last step. The
+/// trials of each slip are run again: what the new disk has are the sums that they give for the upgrade, and the first
+/// slip that is not true ends it. The old disk is only read. What is read and written, and each fault of the wire, is as
+/// in `run_io`.
+///
+/// Whatever crash comes once the journal of the new file is open, it leaves no study there, or some first ones of the
+/// moved slips.
 pub fn migrate<F: Files, W: Wire>(
     files: &mut F,
     alloc: Global,
@@ -78,12 +64,12 @@ pub fn migrate<F: Files, W: Wire>(
     paths: MigratedFiles<'_>,
 ) -> Result<(), CliFault>
     ensures ends { EndsMigrate paths.entry.from.now paths.entry.to.now paths.entry.plan (F.log files.old)
-        (W.log wire.old) (W.log wire.new) result }
+        (F.log files.new) (W.log wire.old) (W.log wire.new) result }
     ensures beside { StaysBeside paths.entry.from.now paths.entry.to.now (F.log files.old) (F.log files.new) }
 {
     let MigratedFiles { from, to, plan } = paths;
-    let mut old = files.open(from, Mode::Existing)?;
-    let mut new = match files.open(to, Mode::Create) {
+    let old = files.open(from, Mode::Existing)?;
+    let new = match files.open(to, Mode::Create) {
         Ok(new) => new,
         Err(fault) => {
             files.close(from, old);
@@ -91,54 +77,151 @@ pub fn migrate<F: Files, W: Wire>(
         }
     };
     let source = PlanSource::of(&*files, plan);
-    let ended = migrate_from(alloc, source, wire, &mut old, &mut new);
+    let Migrated { old, new, ended } = migrate_from(alloc, source, wire, old, new);
     files.close(from, old);
     files.close(to, new);
     ended
 }
 
+/// Migrates as `migrate` does, from one disk to another, by a plan that is read from a wire.
+pub fn migrate_io<W, O, N>(alloc: Global, wire: &mut W, old: O, new: N) -> Result<(), CliFault>
+where
+    W: Wire,
+    O: Disk + Drop,
+    N: Disk + Drop,
+    ensures { (disks : MigrateDisks) × (disks.old ≡ O.log old) × (disks.new ≡ N.log new)
+        × MigratesFrom None disks (W.log wire.old) (W.log wire.new) result }
+{
+    migrate_from(alloc, PlanSource::<MemoryFiles>::Input, wire, old, new).ended
+}
+
+/// Moves a study from one disk to another, by a plan that is read from a wire or a file.
+fn migrate_from<F, W, O, N>(
+    alloc: Global,
+    source: PlanSource<'_, F>,
+    wire: &mut W,
+    old: O,
+    new: N,
+) -> Migrated<O, N, ()>
+where
+    F: Files,
+    W: Wire,
+    O: Disk + Drop,
+    N: Disk + Drop,
+    ensures { MigratesFrom (source_place F.log source.entry) (record {
+      old = O.log old;
+      old_back = O.log result.old;
+      new = N.log new;
+      new_back = N.log result.new;
+    }) (W.log wire.old) (W.log wire.new) result.ended }
+{
+    let plan = match source.read_plan(alloc, wire) {
+        Ok(plan) => plan,
+        Err(fault) => {
+            return Migrated {
+                old,
+                new,
+                ended: Err(fault),
+            };
+        }
+    };
+    let Migrated {
+        old,
+        new,
+        ended: moved,
+    } = move_study(alloc, &plan, old, new);
+    let ended = match moved {
+        Ok(count) => write_moved(alloc, wire, count),
+        Err(fault) => Err(fault),
+    };
+    Migrated { old, new, ended }
+}
+
+/// Writes how many slips were moved.
+fn write_moved<W: Wire>(alloc: Global, wire: &mut W, count: u64) -> Result<(), CliFault>
+    ensures { WritesCount count result (W.log wire.old) (W.log wire.new) }
+{
+    let text = moved_text(alloc, count)?;
+    write_answer(wire, text.as_bytes())
+}
+
 /// Moves the slips of a plan's study, and returns how many there are.
-fn move_study<O, N>(alloc: Global, plan: &Plan, old: O, new: N) -> Result<u64, CliFault>
+fn move_study<O, N>(alloc: Global, plan: &Plan, old: O, new: N) -> Migrated<O, N, u64>
 where
     O: Disk + Drop,
     N: Disk + Drop,
-    ensures { EndsMove (O.log old) (N.log new) plan.now result }
+    ensures { EndsMove (record {
+      old = O.log old;
+      old_back = O.log result.old;
+      new = N.log new;
+      new_back = N.log result.new;
+    }) plan.now result.ended }
 {
-    let slips = slips_on(alloc, plan, old)?;
-    let upgrade = plan.upgrade(alloc)?;
-    let mut journal = new_journal(alloc, &upgrade, new)?;
-    let count = cut_migration::migrate(alloc, slips.as_slice(), plan, &mut journal)?;
-    Ok(count)
-}
-
-/// The slips that a disk holds for a plan.
-fn slips_on<O: Disk + Drop>(alloc: Global, plan: &Plan, disk: O) -> Result<Vec<Slip>, JournalFault>
-    ensures read { IsKnown (O.log disk) → IfOk result (λ slips. reading plan.now (on (O.log disk)).bytes ≡ Ok slips.items) }
-    ensures refused { IsKnown (O.log disk) → IfErr result (λ e. IsReopenFault plan.now (on (O.log disk)).bytes e) }
-    ensures may { IfErr result IsOpeningFaultOf }
-{
-    match Journal::reopen(alloc, disk, plan) {
-        Ok((_, slips)) => Ok(slips),
-        Err((fault, _)) => Err(fault),
+    let (slips, old) = slips_on(alloc, plan, old);
+    match slips {
+        Ok(slips) => {
+            let Filled { disk, count } = move_slips(alloc, plan, &slips, new);
+            Migrated {
+                old,
+                new: disk,
+                ended: count,
+            }
+        }
+        Err(fault) => Migrated {
+            old,
+            new,
+            ended: Err(fault),
+        },
     }
 }
 
-/// The journal of a study without slips, on an unclaimed disk.
-fn new_journal<N: Disk + Drop>(
-    alloc: Global,
-    plan: &Plan,
-    disk: N,
-) -> Result<Journal<N>, JournalFault>
-    ensures plan { IfOk result (λ journal. journal.plan ≡ plan.now) }
-    ensures whole { IfOk result (λ journal. journal.doubtful ≡ None) }
-    ensures free { IsKnown (N.log disk) →
-        IfOk result (λ _. is_unclaimed (on (N.log disk)).bytes ≡ true) }
-    ensures held { IsKnown (N.log disk) → IfErr result (λ e. IsHeld (on (N.log disk)).bytes e) }
-    ensures may { IfErr result MayNotClaim }
+/// The slips that a disk holds for a plan, and the disk.
+fn slips_on<O: Disk + Drop>(alloc: Global, plan: &Plan, disk: O) -> (Result<Vec<Slip>, CliFault>, O)
+    ensures read { IfOk result.0 (λ slips. Goes (λ n. n) (IsReopened plan.now slips.items) (O.log disk)
+        (O.log result.1)) }
+    ensures refused { IfErr result.0 (λ e. IsOldRefused e plan.now (O.log disk) (O.log result.1)) }
 {
-    match Journal::claim(alloc, disk, plan) {
-        Ok(journal) => Ok(journal),
-        Err((fault, _)) => Err(fault),
+    match Journal::reopen(alloc, disk, plan) {
+        Ok((journal, slips)) => (Ok(slips), journal.into_disk()),
+        Err((fault, disk)) => (Err(CliFault::from(fault)), disk),
+    }
+}
+
+/// Makes a study of a plan's upgrade on an unclaimed disk, and moves slips there.
+fn move_slips<N: Disk + Drop>(alloc: Global, plan: &Plan, slips: &[Slip], disk: N) -> Filled<N>
+    ensures { EndsFilling result.count plan.now slips.now (N.log disk) (N.log result.disk) }
+{
+    let upgrade = match plan.upgrade(alloc) {
+        Ok(upgrade) => upgrade,
+        Err(_) => {
+            return Filled {
+                disk,
+                count: Err(CliFault::Memory),
+            };
+        }
+    };
+    match Journal::claim(alloc, disk, &upgrade) {
+        Ok(journal) => fill(alloc, plan, slips, journal),
+        Err((fault, disk)) => Filled {
+            disk,
+            count: Err(CliFault::from(fault)),
+        },
+    }
+}
+
+/// Moves slips to a journal of the plan's upgrade that has none yet.
+fn fill<N: Disk>(alloc: Global, plan: &Plan, slips: &[Slip], journal: Journal<N>) -> Filled<N>
+    requires new { IsNewJournal (upgraded plan.now) journal }
+    ensures { Fills result.count plan.now slips.now (N.log journal.disk) (N.log result.disk) }
+{
+    let mut journal = journal;
+    let count = match cut_migration::migrate(alloc, slips, plan, &mut journal) {
+        Ok(count) => Ok(count),
+        Err(fault) => Err(CliFault::from(fault)),
+    };
+    Filled {
+        disk: journal.into_disk(),
+        count,
     }
 }
 

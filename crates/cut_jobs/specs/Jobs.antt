@@ -57,7 +57,7 @@ EndsJob (Serve socket workers sessions studies folder) before after old new resu
 EndsJob (Ask socket plan) before after old new result =
     EndsAsk (plan_place before plan) old new result × (after ≡ before)
 EndsJob (Migrate from to plan) before after old new result =
-    EndsMigrate from.now to.now plan before old new result × StaysBeside from.now to.now before after
+    EndsMigrate from.now to.now plan before after old new result × StaysBeside from.now to.now before after
 EndsJob (Share index shares file piece workers progress plan) before after old new result =
     (s : share.Share) × (s.index ≡ index) × (s.shares ≡ shares) × (s.block_size ≡ piece)
     × EndsShareOn file.now plan s before after old new result

@@ -11,7 +11,7 @@ use Rattle.cut_files.specs.declared.files.OpenFault.{OpenFault}
 use Rattle.cut_files.specs.declared.files.OpenFault.TheVariants as unopened
 use Rattle.cut_wires.specs.Log.{WireLog}
 use Rattle.cut_journal.specs.declared.fault.JournalFault.{JournalFault}
-use Rattle.cut_commands.specs.Run.{GivesPlanFrom, IsReadAs, IsWritten, LeavesStudy}
+use Rattle.cut_commands.specs.Run.{GivesPlanFrom, HasUnread, IsReadAs, IsWritten, LeavesStudy}
 use Rattle.cut_commands.specs.Faults.{fault_of_files}
 use Rattle.cut_commands.specs.declared.fault.CliFault.{CliFault}
 use Rattle.cut_commands.specs.declared.fault.CliFault.TheVariants.{Memory, Plan, Read, Write, Journal, BadSlip, Migrate}
@@ -20,7 +20,6 @@ use Rattle.cut_commands.proofs.Sources.{ends_read, ends_refused_text}
 use Rattle.cut_machines.specs.JoinCommand.{AreUntouched, EndsJoinFrom, JoinFiles, JoinWrites, LeavesOther}
 use Rattle.cut_machines.specs.JoinCommand.{NamesRefused, NamesRefusedFile, StopsJoin, join_task}
 use Rattle.cut_machines.specs.JoinSources.{IsRefusedAt}
-use Rattle.cut_machines.specs.Share.{HasUnread}
 use Rattle.cut_machines.specs.inside.JoinCommand.{EndsJoining, NamesOld}
 use Rattle.cut_machines.specs.inside.JoinSources.{StaysOpen}
 

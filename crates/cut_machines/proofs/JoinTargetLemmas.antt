@@ -21,61 +21,12 @@ use Rattle.cut_migration.specs.declared.fault.MigrateFault.TheVariants as migrat
 use Rattle.cut_commands.specs.declared.fault.CliFault.{CliFault}
 use Rattle.cut_commands.specs.declared.fault.CliFault.TheVariants.{Memory, Migrate}
 use Rattle.cut_machines.specs.inside.JoinSources.{fault_of}
-use Rattle.cut_machines.specs.JoinTarget.{IsBegun, LeavesDisk, SaysAllOf}
+use Rattle.cut_machines.specs.JoinTarget.{LeavesDisk}
+use Rattle.cut_commands.specs.NewStudy.{IsBegun, SaysAllOf}
+use Rattle.cut_commands.proofs.NewStudies.{GoesOn, appends_first, none_next, one_next, since_made, taken_first}
 use Rattle.cut_machines.specs.inside.JoinTarget.{IsNewJournal, IsPartWritten}
-use Rattle.cut_machines.specs.JoinTarget.{SaysFirstOf}
+use Rattle.cut_commands.specs.NewStudy.{SaysFirstOf}
 use Rattle.cut_machines.specs.inside.JoinTarget.{StopsFilling}
-
--- ---- first slips
-
-abbrev pub AreFirst : List Slip → List Slip → Type 0
-AreFirst all some = (rest : List Slip) × (all ≡ some ++ rest)
-
--- and after them comes the doubtful one, where there is one
-abbrev pub GoesOn : List Slip → List Slip → Option Slip → Type 0
-GoesOn all some doubtful = (slip : Slip) → doubtful ≡ Some slip → AreFirst all (some ++ slip ∷ [])
-
-shorter : (all xs ys : List Slip) → AreFirst all (xs ++ ys) → AreFirst all xs
-shorter all xs ys first = (ys ++ first.0, first.1 ∙ append_assoc xs ys first.0)
-
-taken_first : (all : List Slip) (n : ℕ) → AreFirst all (take n all)
-taken_first all n = (drop n all, sym (take-append-drop n all))
-
-none_next : (all some : List Slip) (doubtful : Option Slip) → doubtful ≡ None → GoesOn all some doubtful
-none_next all some doubtful none slip is = absurd (let both : None ≡ Some slip = sym none ∙ is in cc)
-
-next_is : (x slip : Slip) → Some x ≡ Some slip → x ≡ slip
-next_is x slip is = cc
-
-one_next : (all : List Slip) (n : ℕ) (doubtful : Option Slip) → n < length all
-    → ((d : Slip) → doubtful ≡ Some (get_or all n d)) → GoesOn all (take n all) doubtful
-one_next all n doubtful within is slip same =
-    grind (arith, take_more all n slip within, taken_first all (n + 1))
-
-reads_first : (v : Values) (all kept : List Slip) (doubtful : Option Slip) → AreFirst all kept
-    → GoesOn all kept doubtful → (bytes : List ℕ) → ReadsAs v kept doubtful bytes → SaysFirstOf v all bytes
-reads_first v all kept doubtful first next bytes (inl reads) = inr (kept, (first.0, (first.1, reads)))
-reads_first v all kept doubtful first next bytes (inr (slip, both)) =
-    grind arith
-
--- ---- the moments of some appends
-
-appends_first : (v : Values) (all kept : List Slip) (doubtful : Option Slip) (xs : List Slip) (old new : DiskState)
-    → AreFirst all (kept ++ xs) → GoesOn all (kept ++ xs) doubtful → AppendsEach v kept doubtful xs old new
-    → Throughout old new (SaysFirstOf v all)
-appends_first v all kept doubtful [] old new first next moments =
-    grind (arith, weaker, append-nil)
-appends_first v all kept doubtful (x ∷ xs) old new first next moments =
-    let mid : DiskState = moments.0 in
-    let same : (kept ++ x ∷ []) ++ xs ≡ kept ++ x ∷ xs = append_assoc kept (x ∷ []) xs in
-    let first_of : AreFirst all ((kept ++ x ∷ []) ++ xs) = subst (λ (l : List Slip). AreFirst all l) (sym same) first in
-    and_then (SaysFirstOf v all) old mid new
-    (weaker (ReadsAs v kept (Some x)) (SaysFirstOf v all)
-    (reads_first v all kept (Some x) (shorter all kept (x ∷ xs) first)
-    (λ slip is. subst (λ (s : Slip). AreFirst all (kept ++ s ∷ [])) (next_is x slip is)
-    (shorter all (kept ++ x ∷ []) xs first_of))) old mid moments.1.0)
-    (appends_first v all (kept ++ x ∷ []) doubtful xs mid new first_of
-    (subst (λ (l : List Slip). GoesOn all l doubtful) (sym same) next) moments.1.1)
 
 -- ---- a join to a new journal
 
@@ -152,19 +103,9 @@ filling_stops join.Disk v ss old new good is ends = tt
 
 -- ---- the journal is made, and filled
 
-new_study : (v : Values) (all : List Slip) (bytes : List ℕ) → IsNewStudy v bytes → SaysFirstOf v all bytes
-new_study v all bytes (inl none) = inl none
-new_study v all bytes (inr empty) = inr ([], (all, (refl, empty)))
-
-since_made : (v : Values) (all : List Slip) (old new : DiskState) → reading v old.bytes ≡ Err journal.NoStudy
-    → reading v new.bytes ≡ Ok [] → IsBegunFile v old new → Throughout (synced old) new (SaysFirstOf v all)
-since_made v all old new free empty (inl same) =
-    grind arith
-since_made v all old new free empty (inr moments) =
-    weaker (IsNewStudy v) (SaysFirstOf v all) (new_study v all) (synced old) new moments
-
 begun : (v : Values) (ss : List Slip) (old mid new : DiskState) → is_unclaimed old.bytes ≡ true
-    → reading v old.bytes ≡ Err journal.NoStudy → reading v mid.bytes ≡ Ok [] → IsBegunFile v old mid → IsPartWritten v ss mid new → IsBegun v ss old new
+    → reading v old.bytes ≡ Err journal.NoStudy → reading v mid.bytes ≡ Ok [] → IsBegunFile v old mid → IsPartWritten v ss mid new
+    → IsBegun v (joined v ss) old new
 begun v ss old mid new free none empty made part = search (arith, and_then, since_made)
 
 pub left_filled : {T : Type 0} (result : Result T CliFault) (v : Values) (ss : List Slip) (old mid new : DiskState)

@@ -16,13 +16,13 @@ use Rattle.cut_journal.specs.declared.fault.JournalFault.{JournalFault}
 use Rattle.cut_status.specs.Status.{held_trials, part_text}
 use Rattle.cut_join.specs.Joined.{joined}
 use Rattle.cut_commands.specs.Faults.{IsRefusalOfNew, IsRefusalOfOld, fault_of_files}
-use Rattle.cut_commands.specs.Run.{CommandAnswers, EndsRead, GivesPlanFrom, plan_place}
+use Rattle.cut_commands.specs.Run.{CommandAnswers, EndsRead, GivesPlanFrom, HasUnread, plan_place}
 use Rattle.cut_commands.specs.Task.{Task}
 use Rattle.cut_commands.specs.declared.fault.CliFault.{CliFault}
 use Rattle.cut_commands.specs.declared.fault.CliFault.TheVariants.{Memory, Plan, Read, Journal}
 use Rattle.cut_machines.specs.JoinSources.{AreRead, HoldAll, IsRefusedAt, StopsReading}
-use Rattle.cut_machines.specs.JoinTarget.{LeavesDisk, StopsWriting, writing_faults}
-use Rattle.cut_machines.specs.Share.{HasUnread}
+use Rattle.cut_commands.specs.NewStudy.{writing_faults}
+use Rattle.cut_machines.specs.JoinTarget.{LeavesDisk, StopsWriting}
 
 -- the line that says how many slips were joined to how many, and how many trials of how many these hold
 unfoldable pub joined_text : Values → List Slip → List ℕ

@@ -22,7 +22,7 @@ use Rattle.cut_share.specs.Running.{AreOfShare, AreWhole, IsNotDone}
 use Rattle.cut_share.specs.Share.{trials_of_share}
 use Rattle.cut_wires.specs.Log.{WireLog}
 use Rattle.cut_commands.specs.Faults.{fault_of_files}
-use Rattle.cut_commands.specs.Run.{CommandAnswers, EndsRead, GivesPlanFrom, IsUnread}
+use Rattle.cut_commands.specs.Run.{CommandAnswers, EndsRead, GivesPlanFrom, HasUnread}
 use Rattle.cut_commands.specs.Study.{MayStop}
 use Rattle.cut_commands.specs.Task.{Task}
 use Rattle.cut_commands.specs.declared.fault.CliFault.{CliFault}
@@ -143,11 +143,6 @@ pub record SharesOn (plan : Option Place) (ended : Result ⊤ CliFault) (s : Sha
   pub unread : IfErr ended (λ fault. LeavesUnread plan fault disk back old new)
   pub known : is_known back ≡ is_known disk
   pub faults : back.failed ≡ disk_faults_after ended disk.failed
-
--- the plan's file was not read
-abbrev pub HasUnread : Option Place → Result ⊤ CliFault → WireLog → WireLog → Type 0
-HasUnread None ended old new = ⊥
-HasUnread (Some place) ended old new = IsUnread place ended old new
 
 -- how the command ends over a disk, which is untouched if the plan's file was not read
 abbrev pub SharesFrom : Option Place → Result ⊤ CliFault → Share → DiskLog → DiskLog → WireLog → WireLog → Type 0

@@ -9,7 +9,8 @@ ghost use Rattle.cut_commands.specs.Run.{plan_place};
 ghost use Rattle.cut_machines.specs.JoinCommand.{EndsJoin, EndsJoinFrom, NamesRefusedFile, joined_text};
 ghost use Rattle.cut_machines.specs.inside.JoinCommand.{EndsJoining};
 ghost use Rattle.cut_machines.specs.inside.JoinSources.{StaysOpen};
-ghost use Rattle.cut_machines.specs.JoinTarget.{LeavesDisk, StopsWriting, writing_faults};
+ghost use Rattle.cut_commands.specs.NewStudy.{writing_faults};
+ghost use Rattle.cut_machines.specs.JoinTarget.{LeavesDisk, StopsWriting};
 
 use crate::join_sources::judged_slips;
 use crate::join_target::{Written, write_joined};

@@ -4,9 +4,9 @@ ghost use Rattle.std.specs.Prelude.{◌≡◌, ◌↔◌, IfErr, IfOk, OnOk, len
 ghost use Rattle.cut_disks.specs.Log.{IsKnown, is_known, on};
 ghost use Rattle.cut_ledger.specs.Slips.{AreGood};
 ghost use Rattle.cut_join.specs.Joined.{joined};
-ghost use Rattle.cut_machines.specs.JoinTarget.{LeavesDisk, SaysAllOf};
+ghost use Rattle.cut_commands.specs.NewStudy.{SaysAllOf, writing_faults};
+ghost use Rattle.cut_machines.specs.JoinTarget.{LeavesDisk, StopsWriting};
 ghost use Rattle.cut_machines.specs.inside.JoinTarget.{IsNewJournal, IsPartWritten};
-ghost use Rattle.cut_machines.specs.JoinTarget.{StopsWriting, writing_faults};
 ghost use Rattle.cut_machines.specs.inside.JoinTarget.{StopsFilling};
 
 use crate::join_sources::fault_of;

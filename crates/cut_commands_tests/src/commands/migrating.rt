@@ -4,8 +4,9 @@ use super::PLAN;
 use super::checkpoints::{
     FIRST_FALSE, KeptSlip, disk_of, empty_disk, file_with, push_numbers, whole_file, written,
 };
-use cut_commands::migrate_io;
+use cut_commands::{MigratedFiles, migrate};
 use cut_disks::{Disk, FaultyDisk, Tear};
+use cut_files::MemoryFiles;
 use cut_wires::FaultyWire;
 use std::alloc::Global;
 use std::sync::Wait;
@@ -80,16 +81,45 @@ const MOVES_ONE: Move = Move {
     length: ONE_SLIP,
 };
 
+/// The paths of both files.
+const OLD: &str = "old.cut";
+
+const NEW: &str = "new.cut";
+
+/// Both files.
+fn files_of(
+    alloc: Global,
+    old: FaultyDisk,
+    new: FaultyDisk,
+) -> Result<MemoryFiles<FaultyDisk>, Fail> {
+    let mut files = MemoryFiles::new(alloc);
+    files.put(OLD, old)?;
+    files.put(NEW, new)?;
+    Ok(files)
+}
+
+/// The bytes of a file that is closed.
+fn bytes_of<'a>(files: &'a MemoryFiles<FaultyDisk>, path: &str) -> &'a [u8] {
+    match files.disk(path) {
+        Some(disk) => disk.memory().bytes(),
+        None => &[],
+    }
+}
+
 /// Whether a migration ends with this status and this text.
 fn ends_so(
     alloc: Global,
     wanted: &Move,
-    old: &mut FaultyDisk,
-    new: &mut FaultyDisk,
+    files: &mut MemoryFiles<FaultyDisk>,
 ) -> Result<bool, Fail> {
     let input = Vec::from_slice(alloc, wanted.text.as_bytes())?;
     let mut wire = FaultyWire::new(alloc, input, 4096, wanted.room, 0);
-    match migrate_io(alloc, &mut wire, old, new) {
+    let paths = MigratedFiles {
+        from: OLD,
+        to: NEW,
+        plan: None,
+    };
+    match migrate(files, alloc, &mut wire, paths) {
         Ok(_) => Ok(wanted.status == 0 && wire.taken() == wanted.line.as_bytes()),
         Err(fault) => {
             Ok(fault.status() == wanted.status && fault.to_string(alloc)?.as_str() == wanted.line)
@@ -97,61 +127,61 @@ fn ends_so(
     }
 }
 
-/// Whether a migration goes so, and leaves the old disk as it is.
+/// Whether a migration goes so, and leaves the old file as it is.
 fn goes_so(
     alloc: Global,
     wanted: &Move,
-    old: &mut FaultyDisk,
-    new: &mut FaultyDisk,
+    files: &mut MemoryFiles<FaultyDisk>,
 ) -> Result<bool, Fail> {
-    let before = Vec::from_slice(alloc, old.memory().bytes())?;
-    let is_right = ends_so(alloc, wanted, &mut *old, &mut *new)?;
+    let before = Vec::from_slice(alloc, bytes_of(&*files, OLD))?;
+    let is_right = ends_so(alloc, wanted, &mut *files)?;
     Ok(
         is_right
-            && old.memory().bytes() == before.as_slice()
-            && new.memory().bytes().len() == wanted.length,
+            && bytes_of(&*files, OLD) == before.as_slice()
+            && bytes_of(&*files, NEW).len() == wanted.length,
     )
 }
 
-/// Whether a new disk has the first slip of the upgrade.
-fn has_first(alloc: Global, new: &FaultyDisk) -> Result<bool, Fail> {
+/// Whether the new file has the first slip of the upgrade.
+fn has_first(alloc: Global, files: &MemoryFiles<FaultyDisk>) -> Result<bool, Fail> {
     let mut slip = Vec::new(alloc);
     push_numbers(&mut slip, &[0, 1, 4, 0, 0, 0, 4, 1, 1, 4])?;
-    Ok(new.memory().bytes().get(258..339) == Some(slip.as_slice()))
+    Ok(bytes_of(files, NEW).get(258..339) == Some(slip.as_slice()))
 }
 
-/// Whether the upgrade's study writes its whole table over a disk.
+/// Whether the upgrade's study writes its whole table over the new file.
 fn writes_upgrade<T: Threads + Wait + Sync>(
     rt: &T,
     alloc: Global,
-    disk: &mut FaultyDisk,
+    files: &MemoryFiles<FaultyDisk>,
 ) -> Result<bool, Fail> {
-    let table = written(rt, alloc, UPGRADE, 1, disk)?;
+    let mut disk = disk_of(alloc, Vec::from_slice(alloc, bytes_of(files, NEW))?)?;
+    let table = written(rt, alloc, UPGRADE, 1, &mut disk)?;
     Ok(table.as_slice() == UPGRADE_TABLE.as_bytes())
 }
 
-/// Whether a migration to a disk that holds a study is refused, and leaves that disk as it is.
-fn is_held(alloc: Global, old: &mut FaultyDisk, new: &mut FaultyDisk) -> Result<bool, Fail> {
-    let after = Vec::from_slice(alloc, new.memory().bytes())?;
+/// Whether a migration to a file that holds a study is refused, and leaves that file as it is.
+fn is_held(alloc: Global, files: &mut MemoryFiles<FaultyDisk>) -> Result<bool, Fail> {
+    let after = Vec::from_slice(alloc, bytes_of(&*files, NEW))?;
     let held = Move {
         status: 4,
         line: "cutlab: fault 25 Held",
         length: after.len(),
         ..MOVES_ONE
     };
-    let is_right = goes_so(alloc, &held, old, &mut *new)?;
-    Ok(is_right && new.memory().bytes() == after.as_slice())
+    let is_right = goes_so(alloc, &held, &mut *files)?;
+    Ok(is_right && bytes_of(&*files, NEW) == after.as_slice())
 }
 
 #[test]
 fn a_true_slip_is_moved(rt: HostRuntime) -> Result<(), Fail> {
     let alloc = rt.alloc();
-    let mut old = old_disk(&rt, alloc, Old::Slips(&[FIRST]))?;
-    let mut new = empty_disk(alloc)?;
-    assert!(rt; goes_so(alloc, &MOVES_ONE, &mut old, &mut new)?);
-    assert!(rt; has_first(alloc, &new)?);
-    assert!(rt; writes_upgrade(&rt, alloc, &mut new)?);
-    assert!(rt; is_held(alloc, &mut old, &mut new)?);
+    let old = old_disk(&rt, alloc, Old::Slips(&[FIRST]))?;
+    let mut files = files_of(alloc, old, empty_disk(alloc)?)?;
+    assert!(rt; goes_so(alloc, &MOVES_ONE, &mut files)?);
+    assert!(rt; has_first(alloc, &files)?);
+    assert!(rt; writes_upgrade(&rt, alloc, &files)?);
+    assert!(rt; is_held(alloc, &mut files)?);
     Ok(())
 }
 
@@ -162,9 +192,9 @@ fn moves<T: Threads + Wait + Sync>(
     old: Old,
     wanted: &Move,
 ) -> Result<bool, Fail> {
-    let mut old = old_disk(rt, alloc, old)?;
-    let mut new = empty_disk(alloc)?;
-    goes_so(alloc, wanted, &mut old, &mut new)
+    let old = old_disk(rt, alloc, old)?;
+    let mut files = files_of(alloc, old, empty_disk(alloc)?)?;
+    goes_so(alloc, wanted, &mut files)
 }
 
 /// How a migration ends whose text is not the plan's, or whose study has no true slip.
@@ -253,6 +283,14 @@ fn an_answer_that_fails(rt: HostRuntime) -> Result<(), Fail> {
 /// four for the slip.
 const MOVING_CALLS: u64 = 13;
 
+/// How many calls of the new file's disk failed.
+fn failures_of(files: &MemoryFiles<FaultyDisk>) -> u64 {
+    match files.disk(NEW) {
+        Some(disk) => disk.failures(),
+        None => 0,
+    }
+}
+
 /// Whether a migration of one slip to a disk that fails at this call reports so, and the upgrade's study goes on from
 /// what the disk has; or moves the slip where it makes fewer calls.
 fn goes_on<T: Threads + Wait + Sync>(
@@ -261,20 +299,21 @@ fn goes_on<T: Threads + Wait + Sync>(
     fail_at: u64,
     tear: Tear,
 ) -> Result<bool, Fail> {
-    let mut old = old_disk(rt, alloc, Old::Slips(&[FIRST]))?;
-    let mut new = FaultyDisk::of(alloc, Vec::new(alloc), fail_at, tear)?;
+    let old = old_disk(rt, alloc, Old::Slips(&[FIRST]))?;
+    let new = FaultyDisk::of(alloc, Vec::new(alloc), fail_at, tear)?;
     new.arm();
+    let mut files = files_of(alloc, old, new)?;
     if fail_at > MOVING_CALLS {
-        let is_moved = ends_so(alloc, &MOVES_ONE, &mut old, &mut new)?;
-        return Ok(is_moved && new.failures() == 0);
+        let is_moved = ends_so(alloc, &MOVES_ONE, &mut files)?;
+        return Ok(is_moved && failures_of(&files) == 0);
     }
     let failed = Move {
         status: 4,
         line: "cutlab: fault 20 Disk",
         ..MOVES_ONE
     };
-    let is_reported = ends_so(alloc, &failed, &mut old, &mut new)?;
-    Ok(is_reported && new.failures() == 1 && writes_upgrade(rt, alloc, &mut new)?)
+    let is_reported = ends_so(alloc, &failed, &mut files)?;
+    Ok(is_reported && failures_of(&files) == 1 && writes_upgrade(rt, alloc, &files)?)
 }
 
 #[test]

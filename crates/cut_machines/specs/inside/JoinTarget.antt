@@ -8,7 +8,7 @@ use Rattle.cut_join.specs.Joined.{joined}
 use Rattle.cut_migration.specs.declared.fault.MigrateFault.TheVariants as migration
 use Rattle.cut_commands.specs.declared.fault.CliFault.{CliFault}
 use Rattle.cut_commands.specs.declared.fault.CliFault.TheVariants.{Memory, Migrate}
-use Rattle.cut_machines.specs.JoinTarget.{SaysFirstOf}
+use Rattle.cut_commands.specs.NewStudy.{SaysFirstOf}
 
 -- a journal of a plan that has no slips yet
 pub record IsNewJournal {D : Type 0} (v : Values) (journal : JournalValue D) : Type 0 where

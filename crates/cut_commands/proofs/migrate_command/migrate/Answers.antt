@@ -1,47 +1,48 @@
--- The two files of a migration, which may be one.
-use Rattle.std.proofs.Common.{◌≡◌, ◌∙◌, ◌⊎◌, inl, inr, ℕ, List, Option, Err, cond, sym, ap, ap₂, subst, refl, arith}
-use Rattle.cut_files.specs.Place.{Place, MayNotOpen, StaysElsewhere, opened, while_open}
-use Rattle.cut_files.specs.declared.files.Mode.TheVariants.{Existing, Create}
-use Rattle.cut_files.specs.declared.files.OpenFault.{OpenFault}
-use Rattle.cut_files.proofs.Places.{open_still, open_beside, same_path, second_log, second_open, stands_while_open}
-use Rattle.std.specs.Str.{bytes_eq}
-use Rattle.cut_commands.specs.Migrate.{migrate_task}
-use Rattle.cut_commands.specs.Run.{EndsCommandFrom}
-use Rattle.cut_commands.proofs.Sources.{same_place}
+use Rattle.std.proofs.Common.{◌∙◌, ℕ, List, Option, Err, inl, inr, ap, refl, subst, arith}
+use Rattle.std.proofs.lemmas.Result.{err_from_is_err_and}
+use Rattle.cut_disks.specs.Log.{DiskLog}
+use Rattle.cut_files.specs.Place.{Place, while_open}
+use Rattle.cut_files.specs.declared.files.Mode.TheVariants.{Create}
+use Rattle.cut_files.proofs.Everywhere.{stays_everywhere}
+use Rattle.cut_files.proofs.Places.{open_beside, open_still, second_log, second_open}
+use Rattle.cut_commands.specs.Migrate.{MigrateDisks, MigratesFrom}
 use Rattle.cut_commands.specs.declared.fault.CliFault.{CliFault}
+use Rattle.cut_commands.proofs.MigrateFiles.{all_stays, both_open, second_refused, source_shut, target_shut}
+use Rattle.cut_commands.proofs.Sources.{same_place}
 use Rattle.cut_commands.proofs.migrate_command.migrate.Goals as goal
 
--- a second file that does not open did not open before the first was opened, or is the first
-second_refused : (from to : List ℕ) (fault : OpenFault) (first old : List ℕ → Place) → StaysElsewhere from first old
-    → MayNotOpen Create fault (old to)
-    → MayNotOpen Existing fault (first from) ⊎ ((from ≡ to) ⊎ MayNotOpen Create fault (first to))
-second_refused from to fault first old elsewhere refused = elim (same_path to from) [
-  | inl same ↦ inr (inl (sym same))
-  | inr other ↦ inr (inr (subst (MayNotOpen Create fault) (elsewhere to other) refused))
-]
-
--- what stands at each path while both are open
-both_open : (from to : List ℕ) (first old new : List ℕ → Place) → old from ≡ opened (first from)
-    → StaysElsewhere from first old → new to ≡ opened (old to) → StaysElsewhere to old new → (path : List ℕ)
-    → new path ≡ while_open to (while_open from first) path
-both_open from to first old new is elsewhere next beside path =
-    let before = stands_while_open from first old is elsewhere in
-    stands_while_open to old new next beside path
-    ∙ ap₂ (λ (there here : Place). cond (bytes_eq path to) (opened there) here) (before path) (before path)
+pub returns-in_err-old-clause-ends : goal.returns-in_err-old-clause-ends
+returns-in_err-old-clause-ends g c =
+    let log = g.F.Files.log in
+    let p = err_from_is_err_and c.from_residual.result c.from_residual.ensures.1 in inr (
+      c.in_err-old.field-0.0,
+      (
+        inl c.in_err-old.ensures.refused,
+        p.1 ∙ ap (λ (e : CliFault). Err e) p.2,
+        refl,
+        stays_everywhere c.args.paths.from.now (log c.args.files.now) (log c.open.new.self) c.in_err-old.ensures.elsewhere
+            c.in_err-old.ensures.stays,
+      ),
+    )
 
 pub close-requires : goal.close-requires
 close-requires g c = grind (arith, open_still)
 
 pub returns-in-Err-clause-ends : goal.returns-in-Err-clause-ends
-returns-in-Err-clause-ends g c = inr (
-  c.in-Err.fault,
-  (
-    second_refused c.args.paths.from.now c.args.paths.to.now c.in-Err.fault (g.F.Files.log c.args.files.now)
-        (g.F.Files.log c.open.new.self) c.in_ok-old.ensures.elsewhere c.in-Err.ensures.refused,
-    ap (λ (e : CliFault). Err e) c.from.ensures,
-    refl,
-  ),
-)
+returns-in-Err-clause-ends g c =
+    let log = g.F.Files.log in inr (
+      c.in-Err.fault,
+      (
+        second_refused c.args.paths.from.now c.args.paths.to.now c.in-Err.fault (log c.args.files.now)
+            (log c.open.new.self) c.in_ok-old.ensures.elsewhere c.in-Err.ensures.refused,
+        ap (λ (e : CliFault). Err e) c.from.ensures,
+        refl,
+        all_stays c.args.paths.from.now c.args.paths.to.now (g.F.Disk.Disk.log c.in_ok-old.old) (log c.args.files.now)
+            (log c.open.new.self) (log c.open-2.new.self) (log c.close.new.self) c.in_ok-old.ensures.opened.0
+            c.in_ok-old.ensures.opened.1 c.in_ok-old.ensures.elsewhere c.in-Err.ensures.stays c.in-Err.ensures.elsewhere
+            c.close.ensures.closed c.close.ensures.elsewhere,
+      ),
+    )
 
 pub close-requires-2 : goal.close-requires-2
 close-requires-2 g c =
@@ -57,22 +58,32 @@ close-requires-3 g c =
     c.in_ok-old.ensures.opened.1 c.in-Ok.ensures.opened c.close-2.ensures.closed c.close-2.ensures.elsewhere
 
 pub returns-clause-ends : goal.returns-clause-ends
-returns-clause-ends g c = inl (
-  g.F.Disk.Disk.log c.in_ok-old.old,
-  g.F.Disk.Disk.log c.in-Ok.new,
-  (
-    c.in_ok-old.ensures.opened.0,
-    second_log c.args.paths.from.now c.args.paths.to.now Create (g.F.Disk.Disk.log c.in-Ok.new) (g.F.Files.log c.args.files.now)
-        (g.F.Files.log c.open.new.self) c.in_ok-old.ensures.opened.1 c.in_ok-old.ensures.elsewhere
-        c.in-Ok.ensures.opened.0,
-    subst (λ (plan : Option Place). EndsCommandFrom
-        (migrate_task (g.F.Disk.Disk.log c.in_ok-old.old) (g.F.Disk.Disk.log c.in-Ok.new)) plan
-        (g.W.Wire.log c.args.wire.now) (g.W.Wire.log c.migrate_from-ended.new.wire) c.migrate_from-ended.result)
-        (c.of-source.ensures ∙ same_place (g.F.Files.log c.open-2.new.self)
-        (while_open c.args.paths.to.now (while_open c.args.paths.from.now (g.F.Files.log c.args.files.now)))
-        c.args.paths.plan (both_open c.args.paths.from.now c.args.paths.to.now (g.F.Files.log c.args.files.now)
-        (g.F.Files.log c.open.new.self) (g.F.Files.log c.open-2.new.self) c.in_ok-old.ensures.opened.1
-        c.in_ok-old.ensures.elsewhere c.in-Ok.ensures.opened.1 c.in-Ok.ensures.elsewhere))
-        c.migrate_from-ended.ensures,
-  ),
-)
+returns-clause-ends g c =
+    let log = g.F.Files.log in
+    let from : List ℕ = c.args.paths.from.now in
+    let to : List ℕ = c.args.paths.to.now in
+    let source : DiskLog = g.F.Disk.Disk.log c.in_ok-old.old in
+    let target : DiskLog = g.F.Disk.Disk.log c.in-Ok.new in
+    let source_back : DiskLog = g.F.Disk.Disk.log c.migrate_from-old.result.old in
+    let target_back : DiskLog = g.F.Disk.Disk.log c.migrate_from-old.result.new in
+    let d : MigrateDisks = record { old = source; old_back = source_back; new = target; new_back = target_back } in
+    inl record {
+      disks = d;
+      source = c.in_ok-old.ensures.opened.0;
+      target = second_log from to Create target (log c.args.files.now) (log c.open.new.self)
+          c.in_ok-old.ensures.opened.1 c.in_ok-old.ensures.elsewhere c.in-Ok.ensures.opened.0;
+      ends = subst (λ (plan : Option Place). MigratesFrom plan d (g.W.Wire.log c.args.wire.now)
+          (g.W.Wire.log c.migrate_from-old.new.wire) c.migrate_from-old.result.ended)
+          (c.of-source.ensures ∙ same_place (log c.open-2.new.self) (while_open to (while_open from (log c.args.files.now)))
+          c.args.paths.plan (both_open from to (log c.args.files.now) (log c.open.new.self) (log c.open-2.new.self)
+          c.in_ok-old.ensures.opened.1 c.in_ok-old.ensures.elsewhere c.in-Ok.ensures.opened.1 c.in-Ok.ensures.elsewhere))
+          c.migrate_from-old.ensures;
+      source_after = source_shut from to (log c.args.files.now) (log c.open.new.self) (log c.open-2.new.self)
+          (log c.close-2.new.self) (log c.close-3.new.self) target source_back target_back c.in_ok-old.ensures.opened.1
+          c.in_ok-old.ensures.elsewhere c.in-Ok.ensures.opened.0 c.in-Ok.ensures.opened.1 c.in-Ok.ensures.elsewhere
+          c.close-2.ensures.closed c.close-2.ensures.elsewhere c.close-3.ensures.closed c.close-3.ensures.elsewhere;
+      target_after = target_shut from to (log c.args.files.now) (log c.open.new.self) (log c.open-2.new.self)
+          (log c.close-2.new.self) (log c.close-3.new.self) target source_back target_back c.in_ok-old.ensures.opened.1
+          c.in_ok-old.ensures.elsewhere c.in-Ok.ensures.opened.0 c.in-Ok.ensures.opened.1 c.in-Ok.ensures.elsewhere
+          c.close-2.ensures.closed c.close-2.ensures.elsewhere c.close-3.ensures.closed c.close-3.ensures.elsewhere;
+    }

@@ -1,25 +1,29 @@
--- What stops the call that moves the slips stops the whole.
-use Rattle.std.proofs.Common.{◌∙◌, ℕ, Result, Err, sym, ap, subst}
-use Rattle.std.proofs.lemmas.Result.{err_from_is_err_and}
-use Rattle.cut_plan.specs.Values.{Values}
-use Rattle.cut_migration.specs.Migration as moves
-use Rattle.cut_commands.specs.declared.fault.CliFault.{CliFault}
-use Rattle.cut_commands.specs.Migrate.{EndsMove}
-use Rattle.cut_commands.proofs.MigrateLemmas.{not_moved}
+use Rattle.std.proofs.Common.{List, refl, subst}
+use Rattle.cut_ledger.specs.declared.slip.Slip.{Slip}
+use Rattle.cut_commands.specs.Migrate.{MigrateDisks}
+use Rattle.cut_commands.specs.inside.Migrate.{EndsFilling}
+use Rattle.cut_commands.proofs.MigrateLemmas.{moved_ends, old_ends, was_read}
 use Rattle.cut_commands.proofs.migrate_command.move_study.Goals as goal
 
-pub returns-in_err-count : goal.returns-in_err-count
-returns-in_err-count g c =
-    let v : Values = c.args.plan.now in
-    let upgrade : Values = c.in_ok-upgrade.upgrade in
-    let p = err_from_is_err_and c.from_residual-in_err-count.result c.from_residual-in_err-count.ensures.1 in
-    subst (λ (x : Result ℕ CliFault). EndsMove (g.O.Disk.log c.args.old)
-    (g.N.Disk.log c.args.new) v x)
-    (sym (p.1 ∙ ap (λ (x : CliFault). Err x) p.2))
-    (not_moved (g.O.Disk.log c.args.old) (g.N.Disk.log c.args.new) v
-    c.in_ok-slips.slips.items c.in_err-count.field-0.0 c.in_ok-journal.journal c.migrate.new.journal
-    c.in_ok-slips.ensures.read
-    c.in_ok-journal.ensures.free
-    (c.in_ok-journal.ensures.plan ∙ c.in_ok-upgrade.ensures.value) c.in_ok-journal.ensures.whole
-    (subst (λ xs. moves.EndsMigration (Err c.in_err-count.field-0.0) v xs c.in_ok-journal.journal c.migrate.new.journal)
-    c.as_slice.ensures.value c.in_err-count.ensures.ends))
+pub returns-in-Ok : goal.returns-in-Ok
+returns-in-Ok g c =
+    let d : MigrateDisks = record {
+      old = g.O.Disk.log c.args.old;
+      old_back = g.O.Disk.log c.slips_on-slips.result.1;
+      new = g.N.Disk.log c.args.new;
+      new_back = g.N.Disk.log c.move_slips-disk.result.disk;
+    } in
+    moved_ends d c.args.plan.now c.in-Ok.slips.items c.move_slips-disk.result.count
+    (was_read d c.args.plan.now c.in-Ok.slips.items (rw c.in-Ok.is at c.slips_on-slips.ensures.read))
+    (subst (λ (ss : List Slip). EndsFilling c.move_slips-disk.result.count c.args.plan.now ss d.new d.new_back)
+    c.deref.ensures.value c.move_slips-disk.ensures)
+
+pub returns-in-Err : goal.returns-in-Err
+returns-in-Err g c =
+    let d : MigrateDisks = record {
+      old = g.O.Disk.log c.args.old;
+      old_back = g.O.Disk.log c.slips_on-slips.result.1;
+      new = g.N.Disk.log c.args.new;
+      new_back = g.N.Disk.log c.args.new;
+    } in
+    old_ends d c.args.plan.now c.in-Err.fault (rw c.in-Err.is at c.slips_on-slips.ensures.refused) refl
