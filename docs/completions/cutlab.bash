@@ -22,7 +22,7 @@ _cutlab() {
     ask) mapfile -t COMPREPLY < <(compgen -f -W "--plan --help" -- "$current") ;;
     migrate) mapfile -t COMPREPLY < <(compgen -f -W "--plan --help" -- "$current") ;;
     share) mapfile -t COMPREPLY < <(compgen -f -W "--piece --workers --progress --plan --help" -- "$current") ;;
-    join) mapfile -t COMPREPLY < <(compgen -f -W "--which --help" -- "$current") ;;
+    join) mapfile -t COMPREPLY < <(compgen -f -W "--which --plan --help" -- "$current") ;;
     help) mapfile -t COMPREPLY < <(compgen -W "run check explain canonical status serve ask migrate share join" -- "$current") ;;
   esac
 }

@@ -58,4 +58,5 @@ complete -c cutlab -n '__fish_seen_subcommand_from share' -l help -d 'Print help
 
 complete -c cutlab -n '__fish_seen_subcommand_from join' -F
 complete -c cutlab -n '__fish_seen_subcommand_from join' -l which -d 'Say which of the old files is refused, on standard error'
+complete -c cutlab -n '__fish_seen_subcommand_from join' -l plan -r -F -d 'The file that the plan is read from, in place of standard input'
 complete -c cutlab -n '__fish_seen_subcommand_from join' -l help -d 'Print help'
