@@ -38,7 +38,7 @@ def drawn_messages(rng: random.Random, texts: list[bytes]) -> bytes:
 
 def wanted_replies(sent: bytes) -> Iterator[Message]:
     """The replies to a session, where a count of trials is None."""
-    requests, stream_fault = reference.messages("requests", sent)
+    requests, stream_fault = reference.messages(reference.REQUESTS, sent)
     for kind, payload in requests:
         if kind == "Q":
             return
@@ -57,7 +57,7 @@ def wanted_replies(sent: bytes) -> Iterator[Message]:
 
 def accepted_plans(sent: bytes) -> Iterator[bytes]:
     """The canonical texts of the plans among the requests that are answered."""
-    for kind, payload in reference.messages("requests", sent)[0]:
+    for kind, payload in reference.messages(reference.REQUESTS, sent)[0]:
         if kind == "Q":
             return
         if kind == "R" and fault_of(payload) is None:
@@ -82,7 +82,7 @@ class Sessions(Campaign):
             heard = list(pool.map(lambda its: replies_to(path, *its), pieces))
         ended = end_of(server, 60)
         for sent, found in zip(streams, heard):
-            replies, fault = reference.messages("replies", found)
+            replies, fault = reference.messages(reference.REPLIES, found)
             without_counts = [("S", None) if kind == "S" else (kind, payload) for kind, payload in replies]
             self.expect(f"the replies to {sent.hex()}", (list(wanted_replies(sent)), None), (without_counts, fault))
         plans = {text for sent in streams for text in accepted_plans(sent)}
