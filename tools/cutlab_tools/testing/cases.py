@@ -1,7 +1,5 @@
-"""What the tests of the built program have in common: which program is tried, cases within a test, and the last line.
-
-A test of unittest has many cases, each of which is compared in a subtest, so that one that differs hides no other.
-"""
+"""What the tests of the built program have in common. A test of unittest has many cases, each of which is compared in a
+subtest, so that one that differs hides no other."""
 import tempfile
 import unittest
 from pathlib import Path
@@ -28,7 +26,6 @@ class Cases(unittest.TestCase):
         self.program = Program(self.path, self.folder)
 
     def expect(self, what: str, wanted: object, found: object) -> None:
-        """Compares one case."""
         Cases.tried += 1
         Cases.differing += wanted != found
         with self.subTest(what):

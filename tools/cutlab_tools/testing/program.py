@@ -31,10 +31,11 @@ TABLE, UPGRADE_TABLE = f"{HEADER}{ROW}\n", f"{UPGRADE_HEADER}{UPGRADE_ROW}\n"
 # The name of the plan's file in a server's folder.
 NAME = f"{hashlib.sha256(PLAN).hexdigest()}.cut"
 HEAD, SLIP = 45 + len(PLAN), 105
+# The fault of a text of so many blanks.
+BLANKS = {65_536: "1 NotJson", 65_537: "19 PlanTooLong", 70_000: "19 PlanTooLong"}
 
 
 def plan_with(**fields: Any) -> bytes:
-    """The plan with other values in some of its fields."""
     return reference.canonical_text({**FIELDS, **fields})
 
 
@@ -43,7 +44,6 @@ def line_of(fault: str) -> str:
 
 
 def refused(fault: str, status: int = 4) -> Ended:
-    """How a command ends with a fault."""
     return Ended("", line_of(fault), status)
 
 
@@ -60,11 +60,12 @@ class ProgramCases(Cases):
         """Compares how a command ends; words alone are its whole output."""
         self.expect_run(Ended(wanted) if isinstance(wanted, str) else wanted, *line.split(), text=text)
 
-    def says(self, wanted: Ended, found: Ended, what: str) -> None:
-        """Compares how a command ended that has to print this among other things, and nothing where it is empty."""
-        pairs = ((wanted.output, found.output), (wanted.errors, found.errors))
-        is_said = [bool(one) == bool(other) and one in other for one, other in pairs]
-        self.expect(what, (wanted.status, [True, True]), (found.status, is_said))
+    def ends_soon(self, line: str, wanted: Ended) -> None:
+        """Compares how a command ends that has to wait for nobody."""
+        found = Ended("", "it waits")
+        with contextlib.suppress(subprocess.TimeoutExpired):
+            found = self.program.run(*line.split(), text=PLAN, limit=10)
+        self.expect(line, wanted, found)
 
     def names(self) -> list[str]:
         return sorted(it.name for it in self.folder.iterdir())
@@ -84,10 +85,7 @@ class ProgramCases(Cases):
 
 
 class Studies(ProgramCases):
-    """Tables, and what is said of plans."""
-
     def test_small_studies(self) -> None:
-        """Tables that were worked out by hand, by some workers and by pieces of some sizes."""
         versions = (FIELDS, HEADER, TABLES["small"]), (UPGRADE_FIELDS, UPGRADE_HEADER, TABLES["small_upgrades"])
         for plan, header, rows in versions:
             for fields, row in rows:
@@ -107,7 +105,6 @@ class Studies(ProgramCases):
         self.expect("31 rings", Ended(f"{HEADER}31,31,1,1,1,1998,0,0,0,1998,1,1,0\n"), found)
 
     def test_counts(self) -> None:
-        """What `check` says of a large study, and the quorums of some numbers of processes."""
         large = plan_with(nodes=1000, k=[10], h=[6, 7, 8, 9], l=[1, 2, 3, 4], f=[2, 4, 8, 16], repeats=20, dead="speak")
         self.ends("check", "cells 64\ntrials 1280\nquorum 751\n", large)
         for nodes, quorum in ((2, 2), (4, 4), (5, 4), (9, 7)):
@@ -143,14 +140,12 @@ class Studies(ProgramCases):
         three: Plan = dict(**every, k=[3], h=[1, 2, 3])
         self.ends("check", refused("10 TooManyTrials", 3), plan_with(**three))
         self.ends("check", refused("9 TooManyFaults", 3), plan_with(**{**three, "liars": 2048}))
-        for size, fault in ((65_536, "1 NotJson"), (65_537, "19 PlanTooLong"), (70_000, "19 PlanTooLong")):
+        for size, fault in BLANKS.items():
             found = self.program.run("check", text=b" " * size)
             self.expect(f"check of {size} blanks", refused(fault, 3), found)
 
 
 class Checkpoints(ProgramCases):
-    """Studies in files."""
-
     def test_checkpoints(self) -> None:
         """A checkpoint is opened before anything is read, and kept."""
         self.file("folder").mkdir()
@@ -220,10 +215,7 @@ class Checkpoints(ProgramCases):
         self.ends("run --checkpoint study.cut", TABLE)
         os.mkfifo(self.file("pipe"))
         for line in TABLES["blocking"]:
-            found = Ended("", "it waits")
-            with contextlib.suppress(subprocess.TimeoutExpired):
-                found = self.program.run(*line.split(), text=PLAN, limit=10)
-            self.expect(line, refused("20 Disk"), found)
+            self.ends_soon(line, refused("20 Disk"))
 
 
 class PlanFiles(ProgramCases):
@@ -261,33 +253,24 @@ class PlanFiles(ProgramCases):
         self.file("folder").mkdir()
         os.mkfifo(self.file("pipe"))
         texts = {"bad.json": (b"{}", "4 MissingField copies"), "empty.json": (b"", "1 NotJson")}
-        sizes = {65_536: "1 NotJson", 65_537: "19 PlanTooLong", 70_000: "19 PlanTooLong"}
-        texts |= {f"{size}.json": (b" " * size, fault) for size, fault in sizes.items()}
-        faults = {name: refused(fault, 3) for name, (_, fault) in texts.items()}
-        faults |= {name: refused("20 Disk") for name in ("folder", "pipe", "none.json", "/dev/null")}
-        for name, (text, _) in texts.items():
+        texts |= {f"{size}.json": (b" " * size, fault) for size, fault in BLANKS.items()}
+        faults = {name: refused("20 Disk") for name in ("folder", "pipe", "none.json", "/dev/null")}
+        for name, (text, fault) in texts.items():
             self.file(name).write_bytes(text)
+            faults[name] = refused(fault, 3)
         for name, wanted in faults.items():
             for line in ("run {0}", "check {0}", "canonical {0}", "share 1/1 share.cut --plan {0}"):
-                found: Ended | str = "it waits"
-                try:
-                    found = self.program.run(*line.format(name).split(), text=PLAN, limit=10)
-                except subprocess.TimeoutExpired:
-                    pass
-                self.expect(line.format(name), wanted, found)
+                self.ends_soon(line.format(name), wanted)
 
     def test_own_checkpoint(self) -> None:
         """A plan's file is not taken for a checkpoint, and stays byte for byte."""
         self.file("plan.json").write_bytes(PLAN)
-        self.ends("run --checkpoint plan.json plan.json", refused("22 NoStudy"), b"")
-        self.ends("share 1/1 plan.json --plan plan.json", refused("22 NoStudy"), b"")
-        self.ends("migrate plan.json new.cut --plan plan.json", refused("22 NoStudy"), b"")
+        for line in ("run --checkpoint {0} {0}", "share 1/1 {0} --plan {0}", "migrate {0} new.cut --plan {0}"):
+            self.ends(line.format("plan.json"), refused("22 NoStudy"), b"")
         self.expect("the plan's file", PLAN, self.file("plan.json").read_bytes())
 
 
 class Machines(ProgramCases):
-    """Shares and joins."""
-
     def test_joins(self) -> None:
         self.file("empty.cut").touch()
         faults = {"none.cut": "20 Disk", "empty.cut": "22 NoStudy", "joined.cut": "20 Disk"}
@@ -311,8 +294,8 @@ class Machines(ProgramCases):
 
     def files_of(self, plan: bytes, count: int) -> dict[str, int]:
         """Files with one slip each, of the first trials of a plan: the trial of each name."""
-        status = self.program.run("run", "--piece", "1", "--checkpoint", "whole.cut", text=plan).status
-        self.expect("a study in pieces of one trial", 0, status)
+        done = self.program.run("run", "--piece", "1", "--checkpoint", "whole.cut", text=plan)
+        self.expect("a study in pieces of one trial", 0, done.status)
         whole, start = self.file("whole.cut").read_bytes(), 45 + len(plan)
         trials = {f"{(7 * trial) % count}.cut": trial for trial in range(count)}
         for name, trial in trials.items():
@@ -367,8 +350,10 @@ class Lines(ProgramCases):
 
     def test_words(self) -> None:
         for line, text in TABLES["helps"]:
-            self.says(Ended(text), self.program.run(*line.split()), line)
-        self.says(Ended("", "unrecognized subcommand 'frob'", 2), self.program.run("frob"), "frob")
+            output, errors, status = self.program.run(*line.split())
+            self.expect(line, (True, "", 0), (text in output, errors, status))
+        output, errors, status = self.program.run("frob")
+        self.expect("frob", ("", True, 2), (output, "unrecognized subcommand 'frob'" in errors, status))
         for row, text, usage in TABLES["mistakes"]:
             output, errors, status = self.program.run(*row.split(), text=PLAN)
             shown = errors[errors.find("Usage: ") :].split("\n")[0]
@@ -397,32 +382,26 @@ class Lines(ProgramCases):
             self.expect(f"the bytes of {name}", whole, self.file(name).read_bytes())
         server = self.served(sessions=3)
         connect(self.file("socket")).close()
-        found = self.program.run("ask", "socket", text=PLAN, preexec_fn=partial(os.close, 1))
-        self.expect("ask with its output closed", Ended(), found)
-        found = self.program.run("ask", "socket", text=PLAN, preexec_fn=partial(os.close, 0))
-        self.expect("ask with its input closed", refused("1 NotJson", 3), found)
+        for number, wanted in ((1, Ended()), (0, refused("1 NotJson", 3))):
+            found = self.program.run("ask", "socket", text=PLAN, preexec_fn=partial(os.close, number))
+            self.expect(f"ask with stream {number} closed", wanted, found)
         self.expect("their server", Ended("accepted 2\n"), end_of(server))
 
 
 class Servers(ProgramCases):
-    """Servers and their clients."""
-
     def test_servers(self) -> None:
         """A study that a server keeps is there for the next one."""
         kept = self.file("kept")
         kept.mkdir()
         for line in ("accepted 2\n", "accepted 0\n"):
             server = self.served("--dir", kept)
-            found = self.asked_until(0)
-            ended = end_of(server)
-            self.expect("what a client is sent", Ended(TABLE), found)
-            self.expect("what its server prints", Ended(line), ended)
+            self.expect("what a client is sent", Ended(TABLE), self.asked_until(0))
+            self.expect("what its server prints", Ended(line), end_of(server))
             self.expect("the files of its folder", [NAME], os.listdir(kept))
             self.expect("the length of one slip's file", HEAD + SLIP + 1, (kept / NAME).stat().st_size)
         self.ends("ask none", refused("43 Read"))
 
     def test_two_clients(self) -> None:
-        """Two clients at once."""
         liar, server = plan_with(f=[0], liars=1, repeats=1), self.served(sessions=2)
         with connect(self.file("socket")) as first, connect(self.file("socket")) as second:
             for wire, text in ((first, PLAN), (second, liar)):
@@ -451,8 +430,11 @@ class Servers(ProgramCases):
 
     def test_bad_servers(self) -> None:
         self.file("plain").touch()
-        faults = {"none/socket": "43 Read", "socket --dir plain": "20 Disk", "socket --dir none": "20 Disk"}
-        for words, fault in faults.items():
+        for words, fault in (
+            ("none/socket", "43 Read"),
+            ("socket --dir plain", "20 Disk"),
+            ("socket --dir none", "20 Disk"),
+        ):
             self.ends(f"serve {words} --workers 2 --sessions 1 --studies 2", refused(fault), b"")
         self.expect("the files that they leave", ["plain"], self.names())
 

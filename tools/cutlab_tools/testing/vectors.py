@@ -18,7 +18,6 @@ FaultFound = tuple[int, str]
 
 
 def vectors_of(name: str) -> Any:
-    """The rows of a file of values."""
     return json.loads((DATA / f"{name}.json").read_text())
 
 
@@ -44,8 +43,6 @@ def pieces_in(held: bytes) -> list[tuple[int, int]]:
 
 
 class Vectors(Cases):
-    """The files of tests/data, one after another."""
-
     def put(self, name: str, held: str) -> Path:
         """A file of these bytes, in hexadecimal digits."""
         self.file(name).write_bytes(bytes.fromhex(held))
@@ -56,11 +53,11 @@ class Vectors(Cases):
         output, errors, _ = self.program.run(*words, text=row.get("plan", "").encode())
         return output or re.sub(r"^cutlab: fault (.*)\n\Z", r"\1", errors)
 
-    def check_canonical(self, row: Any) -> None:
-        self.expect_run(Ended(row["canonical"] + "\n"), "canonical", text=row["plan"].encode())
+    def test_canonical(self) -> None:
+        for row in (*vectors_of("checkpoints"), *vectors_of("migrations")):
+            self.expect_run(Ended(row["canonical"] + "\n"), "canonical", text=row["plan"].encode())
 
     def test_plans(self) -> None:
-        """Each plan's table, by one worker and by three."""
         for row in vectors_of("plans"):
             for words in (["run"], ["run", "--workers", "3", "--piece", "2"]):
                 self.expect_run(Ended(row["table"]), *words, text=row["plan"].encode())
@@ -74,9 +71,8 @@ class Vectors(Cases):
             self.expect(f"check < {row['text']}", wanted, (fault_in(errors), status))
 
     def test_checkpoints(self) -> None:
-        """The canonical text of each plan, and how its files are read, by a join: how many slips one has, or the fault."""
+        """How the files of each plan are read, by a join: how many slips one has, or the fault."""
         for row in vectors_of("checkpoints"):
-            self.check_canonical(row)
             for held in ({"file": row["file"], "reading": row["slips"]}, *row["changed"]):
                 self.put("old", held["file"])
                 output, errors, _ = self.program.run("join", "new", "old", text=row["plan"].encode())
@@ -92,9 +88,8 @@ class Vectors(Cases):
             self.expect(f"the status of {row['file']}", row["printed"], self.printed(row, "status", path.name))
 
     def test_migrations(self) -> None:
-        """The canonical text of each plan, what a migration of a file prints, and the file that it leaves."""
+        """What a migration of a file prints, and the file that it leaves."""
         for row in vectors_of("migrations"):
-            self.check_canonical(row)
             old, new = self.put("old", row["old"]), self.file("new")
             new.unlink(missing_ok=True)
             found = self.printed(row, "migrate", old, new), new.read_bytes().hex()
@@ -150,7 +145,6 @@ class Vectors(Cases):
         return (fault_in(errors)[0] if errors else 0), len(output.encode())
 
     def test_answers(self) -> None:
-        """How a client ends that is sent such an answer, and how much of it it prints."""
         for row in vectors_of("answers"):
             found = self.asked(bytes.fromhex(row["answer"]))
             self.expect(f"an answer of {row['answer']}", (row["fault"], row["written"]), found)
