@@ -8,7 +8,6 @@ from .paths import PROGRAM
 
 
 def existing(program: str) -> Path:
-    """A program that can be run."""
     if not os.access(program, os.X_OK):
         raise argparse.ArgumentTypeError(f"there is no program {os.path.relpath(program)}: build it, or name it")
     return Path(program).absolute()

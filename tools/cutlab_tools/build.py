@@ -1,10 +1,9 @@
-"""Proves and builds the program, for who wants to use it: ./build
+"""Proves and builds the program, crates/cutlab/out/cutlab, for who wants to use it: ./build
 
-The crates that the program stands on are proved, as many side by side as there are processors and memory for, without the
-edits that must fail and without the crates of tests: `rt ci` over a copy that has nothing else. A line says of each crate when
-it is proved, how far the build is, and about how long it may still take. The program is then the file
-crates/cutlab/out/cutlab. What was proved is kept on this machine, so that a first `rt ci` does not prove it again.
-"""
+The crates that it stands on are proved, as many side by side as there are processors and memory for, without the edits that
+must fail and the crates of tests: `rt ci` over a copy that has nothing else. A line says of each crate when it is proved, how far
+the build is, and about how long it may still take. What was proved is kept on this machine, so that a first `rt ci` does not prove
+it again."""
 import re
 import shutil
 import subprocess
@@ -12,7 +11,7 @@ import sys
 import tempfile
 import time
 from pathlib import Path
-from typing import Iterable, TextIO
+from typing import Iterable
 
 from .arguments import parser
 from .paths import PROGRAM, ROOT, copy, require
@@ -35,7 +34,6 @@ def needed(below: dict[str, list[str]], name: str) -> set[str]:
 
 
 def copy_crates(place: Path, below: dict[str, list[str]], crates: set[str]) -> None:
-    """Copies what is to be proved to a folder."""
     for path in (ROOT / "crates" / crate / part for crate in crates for part in PARTS):
         for file in (path, *path.rglob("*")):
             if file.is_file():
@@ -55,11 +53,11 @@ def minutes(seconds: float) -> str:
     return f"{seconds // 60:.0f} min" if seconds >= 90 else f"{seconds:.0f} s"
 
 
-def print_progress(crates: set[str], printed: Iterable[bytes], log: TextIO) -> None:
+def print_progress(crates: set[str], printed: Iterable[bytes], kept: list[str]) -> None:
     """Keeps what the proofs print, and prints a line for each crate that is proved."""
     sizes, done, count, begun = {it: size_of(it) for it in crates}, 0, 0, time.monotonic()
     for line in (it.decode(errors="replace") for it in printed):
-        log.write(line)
+        kept.append(line)
         proved = re.match(r"rt: (\w+) proved", line)
         if not proved or proved[1] not in sizes:
             continue
@@ -70,23 +68,20 @@ def print_progress(crates: set[str], printed: Iterable[bytes], log: TextIO) -> N
 
 def prove(place: Path, crates: set[str]) -> bool:
     """Proves the copy, and says how far it is: whether all was proved."""
-    log = place / "log"
-    with log.open("w+") as kept:
-        pipe, none = subprocess.PIPE, subprocess.DEVNULL
-        proofs = subprocess.Popen(["rt", "ci"], cwd=place, stdin=none, stdout=pipe, stderr=subprocess.STDOUT)
-        with proofs:
-            print_progress(crates, proofs.stdout or [], kept)
+    kept: list[str] = []
+    pipe, none = subprocess.PIPE, subprocess.DEVNULL
+    with subprocess.Popen(["rt", "ci"], cwd=place, stdin=none, stdout=pipe, stderr=subprocess.STDOUT) as proofs:
+        print_progress(crates, proofs.stdout or [], kept)
     if proofs.returncode:
-        print("\n".join(log.read_text().split("\n")[-61:]), end="", file=sys.stderr)
+        print("".join(kept[-60:]), end="", file=sys.stderr)
     return proofs.returncode == 0
 
 
 def main() -> int:
     parser(__doc__, "").parse_args()
     require("rt", "build", "README.md")
-    below = dependencies()
+    below, built = dependencies(), PROGRAM.relative_to(ROOT)
     crates = needed(below, "cutlab")
-    built = PROGRAM.relative_to(ROOT)
     with tempfile.TemporaryDirectory() as folder:
         copy_crates(Path(folder), below, crates)
         if not prove(Path(folder), crates):

@@ -28,7 +28,7 @@ class Argument(NamedTuple):
 
     @property
     def is_valued(self) -> bool:
-        """Whether it is an option with a value that is no path."""
+        """An option with a value that is no path."""
         return bool(self.value) and not (self.is_word or self.is_file or self.is_folder)
 
 
@@ -50,7 +50,6 @@ class Command(NamedTuple):
 
 
 def arguments(lines: list[str]) -> list[Argument]:
-    """The arguments that the lines of a command's help describe."""
     found = []
     for name, value, word, more, about, default in (it.groups() for it in map(ARGUMENT.match, lines) if it):
         value = value or (word + (more or "") if word else "")

@@ -1,7 +1,5 @@
 """docs/statement/make [--check]: writes docs/STATEMENT.md, every definition that the program's theorem cites, word for
-word, in the order of docs/statement/skeleton.md. With --check it writes nothing, and fails where the page isn't that.
-
-The skeleton is prose with lines of these kinds:
+word, in the order of docs/statement/skeleton.md, which is prose with lines of these kinds:
 
     {{theorem FILE FUNCTION}}      the contract of a function, with which the closure begins
     {{definitions MODULE..}}       those of the closure that stand in these specs, as crate/File
@@ -10,8 +8,8 @@ The skeleton is prose with lines of these kinds:
     {{counts}}                     how many definitions and lines there are
     {{needs COMMAND MODULE:NAME..}}   how many of them a command needs, whose end these definitions say
 
-It fails where the theorem cites a definition of a folder specs/inside: these say how a crate keeps its values,
-and are for its own clauses and proofs.
+With --check it writes nothing, and fails where the page isn't that. It fails where the theorem cites a definition of a folder
+specs/inside: these say how a crate keeps its values, and are for its own clauses and proofs.
 """
 import re
 from typing import Iterable, Iterator, NamedTuple
@@ -30,8 +28,6 @@ CLAUSE = re.compile(r"(?:ensures|requires)[^{]*\{(.*?)\}\s*(?=ensures|requires|$
 
 
 class Cited(NamedTuple):
-    """A name of a module."""
-
     module: str
     name: str
 
@@ -62,10 +58,8 @@ class Uses:
             if not found:
                 raise NotMade(f"can't read: {line}")
             module, names, alias = found.groups()
-            for name in re.split(r",\s*", names or ""):
-                own, _, other = name.partition(" as ")
-                if own:
-                    self.names[other or own] = Cited(module, own)
+            for own, other in re.findall(r"([^\s,]+)(?: as ([^\s,]+))?", names or ""):
+                self.names[other or own] = Cited(module, own)
             if alias:
                 self.modules[alias] = module
 
@@ -187,11 +181,10 @@ class Page:
 
     def definitions(self, *words: str) -> list[str]:
         lines = []
-        for word in words:
-            module = module_of(word)
+        for module in map(module_of, words):
             spec = self.closure.spec(module)
             if spec is None:
-                raise NotMade(f"the skeleton names {word}, and there is no such file")
+                raise NotMade(f"the skeleton names {module}, and there is no such file")
             texts = [text for (of, _), text in sorted(self.closure.found.items()) if of == module]
             lines += self.block(module, spec.path, "text", texts)
         return lines
@@ -219,7 +212,7 @@ class Page:
 
     def needs(self, command: str, *words: str) -> list[str]:
         closure = Closure(self.repository)
-        for module, _, name in (word.partition(":") for word in words):
+        for module, name in (word.split(":") for word in words):
             closure.visit(Cited(module_of(module), name))
         count, lines = closure.counts()
         return [f"Of these {count} definitions of {lines} lines are what `{command}` needs."]
@@ -231,17 +224,13 @@ class Page:
             if words[:1] == ["theorem"]:
                 self.cite(*words[1:])
         parts = [getattr(self, words[0])(*words[1:]) if words else [line] for line, words in zip(skeleton, said)]
-        self.check_places()
-        return re.sub(r"\n{3,}", "\n\n", "\n".join(line for part in parts for line in part)).rstrip("\n") + "\n"
-
-    def check_places(self) -> None:
-        """Checks that all that is cited has a place on the page, and may have one."""
         wanted = {home for home, _ in (*self.closure.found, *self.closure.types)}
         inside = sorted(module for module in wanted if ".specs.inside." in module)
         if inside:
             raise NotMade("the theorem cites what is inside of a crate: " + ", ".join(inside))
         if wanted - self.placed:
             raise NotMade("the skeleton has no place for " + ", ".join(sorted(wanted - self.placed)))
+        return re.sub(r"\n{3,}", "\n\n", "\n".join(line for part in parts for line in part)).rstrip("\n") + "\n"
 
 
 def made(repository: Repository) -> dict[str, str]:
