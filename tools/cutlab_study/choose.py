@@ -1,8 +1,5 @@
 """The watermarks that do best in a table."""
-from __future__ import annotations
-
-from dataclasses import dataclass
-from typing import Callable, Iterator
+from typing import Callable, Iterator, NamedTuple
 
 from .plans import Refused
 from .tables import Line, Share, Table, shown
@@ -12,34 +9,7 @@ Pair = tuple[int, int, int]
 LIMITED = (("conflicts", True, "receivers"), ("silent", True, "receivers"), ("right", False, "trials"))
 
 
-@dataclass(frozen=True)
-class Limits:
-    """What a pair must keep to, by the bounds of its worst line."""
-
-    conflicts: float | None
-    silent: float | None
-    right: float | None
-
-    def compared(self, it: Worst) -> Iterator[tuple[str, float, bool]]:
-        """Of each limit how far a pair is from it: in words, in parts of it, and whether the pair lacks it."""
-        for name, is_most, of in LIMITED:
-            limit, found = getattr(self, name), getattr(it, name)
-            if limit is not None:
-                over, under = (found.share, limit) if is_most else (limit, found.share)
-                said = f"{name} {found} {'above' if is_most else 'below'} {shown(limit)} of {of}"
-                yield said, over / max(under, 1e-9), over > under
-
-    def lacks(self, it: Worst) -> list[str]:
-        """What a pair lacks, in words, with how far it is from it."""
-        return [said for said, _, is_lacking in self.compared(it) if is_lacking]
-
-    def distance(self, it: Worst) -> float:
-        """How far a pair is from what it must keep to, in parts of it."""
-        return max((parts for _, parts, _ in self.compared(it)), default=0.0)
-
-
-@dataclass(frozen=True)
-class Worst:
+class Worst(NamedTuple):
     """A pair of watermarks by its worst line in each respect, over all numbers of failed processes but none."""
 
     pair: Pair
@@ -57,6 +27,29 @@ class Worst:
             f"K = {k}, H = {h}, L = {l}: conflicts {self.conflicts} of receivers ({self.ppm} ppm), "
             f"{shown(self.proposals.share)} of proposals; silent {self.silent}; right {self.right} of trials{wrong}"
         )
+
+
+class Limits(NamedTuple):
+    """What a pair must keep to, by its worst lines."""
+
+    conflicts: float | None
+    silent: float | None
+    right: float | None
+
+    def compared(self, it: Worst) -> Iterator[tuple[str, float, bool]]:
+        """Of each limit how far a pair is from it: in words, in parts of it, and whether the pair lacks it."""
+        for name, is_most, of in LIMITED:
+            limit, found = getattr(self, name), getattr(it, name)
+            if limit is not None:
+                over, under = (found.share, limit) if is_most else (limit, found.share)
+                said = f"{name} {found} {'above' if is_most else 'below'} {shown(limit)} of {of}"
+                yield said, over / max(under, 1e-9), over > under
+
+    def lacks(self, it: Worst) -> list[str]:
+        return [said for said, _, is_lacking in self.compared(it) if is_lacking]
+
+    def distance(self, it: Worst) -> float:
+        return max((parts for _, parts, _ in self.compared(it)), default=0.0)
 
 
 def worst_of(pair: Pair, lines: list[Line]) -> Worst:
@@ -85,7 +78,6 @@ NARROW = (
 
 
 def said_of(it: Worst) -> list[str]:
-    """What is printed of a pair."""
     return [str(it), NARROW] if it.pair[1] == it.pair[0] else [str(it)]
 
 
@@ -97,8 +89,9 @@ def choose(table: Table, limits: Limits, order: str, best: int) -> tuple[set[Pai
         if it.f > 0:
             pairs.setdefault((it.k, it.h, it.l), []).append(it)
     if not pairs:
-        why = "it has only cells in which nobody fails, and no pair is better than another there"
-        raise Refused(f"{table.name}: {why}")
+        raise Refused(
+            f"{table.name}: it has only cells in which nobody fails, and no pair is better than another there"
+        )
     found, chosen = [worst_of(pair, lines) for pair, lines in pairs.items()], list[Worst]()
     for k in sorted({it.pair[0] for it in found}):
         # A pair with H below K comes before one with H = K, however they do.
@@ -107,6 +100,9 @@ def choose(table: Table, limits: Limits, order: str, best: int) -> tuple[set[Pai
     if not chosen:
         nearest = min(found, key=limits.distance)
         near, *price = said_of(nearest)
-        lacks = f"  it lacks: {'; '.join(limits.lacks(nearest))}"
-        raise Refused("\n".join([f"no pair keeps to the limits. The nearest is {near}", lacks, *price]))
+        lines = [
+            f"no pair keeps to the limits. The nearest is {near}",
+            f"  it lacks: {'; '.join(limits.lacks(nearest))}",
+        ]
+        raise Refused("\n".join([*lines, *price]))
     return {it.pair for it in chosen}, [line for it in chosen for line in said_of(it)]

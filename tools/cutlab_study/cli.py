@@ -1,6 +1,4 @@
 """The commands of tools/study."""
-from __future__ import annotations
-
 import argparse
 import os
 import sys
@@ -12,9 +10,8 @@ from .choose import ORDERS, Limits
 from .choose import choose as chosen
 from .exact import CellColumns, beside, ladder
 from .exact import exact as columns_of
-from .plans import Refused, read_plan
-from .plot import View, plot_rare
-from .plot import plot as draw
+from .plans import Refused, read_plan, read_text
+from .plot import View, plot_along, plot_gaps, plot_rare
 from .report import page
 from .tables import read_table
 
@@ -29,7 +26,6 @@ PREMISE = (
 
 
 def word(*names: str, about: str | None = None, **how: Any) -> Word:
-    """A word of a command line, as argparse takes it."""
     return names, {**how, "help": about}
 
 
@@ -148,11 +144,13 @@ def plot(given: Words) -> list[str]:
     where = dict(parts(it, "--where ", "COLUMN=VALUE") for it in given.where)
     if given.exact:
         plot_rare(read_plan(given.exact), read_table(given.table), given.output)
-        return []
-    if not given.along and (where or given.of or given.each):
+    elif given.along:
+        view = View(given.of or "conflicts", given.along, given.each or "f", where)
+        plot_along(given.table, read_text(given.table), given.output, view)
+    elif where or given.of or given.each:
         raise Refused("--of, --each and --where are for a picture along a column: say which by --along")
-    view = View(given.of or "conflicts", given.along, given.each or "f", where) if given.along else None
-    draw(given.table, given.output, view)
+    else:
+        plot_gaps(read_table(given.table), given.output)
     return []
 
 
@@ -172,9 +170,10 @@ def report(given: Words) -> list[str]:
 
 
 def main() -> int:
-    about = "Exact shares, choices, comparisons and reports of studies."
-    end = "docs/GUIDE.md shows each. A file - is standard input."
-    words = argparse.ArgumentParser(prog="study", description=about, epilog=end)
+    words = argparse.ArgumentParser(
+        prog="study", description="Exact shares, choices, comparisons and reports of studies."
+    )
+    words.epilog = "docs/GUIDE.md shows each. A file - is standard input."
     commands = words.add_subparsers(required=True, metavar="COMMAND")
     for does, its in COMMANDS:
         one = commands.add_parser(does.__name__, help=does.__doc__, description=does.__doc__)

@@ -1,6 +1,4 @@
 """Plans, read and judged as the reference does."""
-from __future__ import annotations
-
 import shutil
 import sys
 from pathlib import Path
@@ -12,7 +10,6 @@ from cutlab_tools.program import Program
 __all__ = ["Cell", "Plan", "Refused", "cells", "plan_of", "quorum", "read_plan", "read_text", "reference", "text_of"]
 
 Cell = reference.Cell
-# How many equal proposals decide, and the cells of a plan, are what the definitions say.
 cells, quorum = reference.cells, reference.quorum
 # The program on the PATH.
 CUTLAB = Program(Path("cutlab"))
@@ -27,8 +24,7 @@ def read_text(path: str) -> bytes:
     if path == "-":
         return sys.stdin.buffer.read()
     try:
-        with open(path, "rb") as file:
-            return file.read()
+        return Path(path).read_bytes()
     except OSError as why:
         raise Refused(f"{path}: {why.strerror}") from None
 
@@ -43,12 +39,10 @@ def explained(text: bytes, fault: reference.Fault) -> str:
 
 
 def plan_of(text: bytes) -> Plan:
-    """The plan of a text."""
     try:
-        plan: Plan = reference.plan_of(text)
+        return reference.plan_of(text)
     except reference.Fault as fault:
         raise Refused(explained(text, fault)) from None
-    return plan
 
 
 def read_plan(path: str) -> Plan:

@@ -1,18 +1,12 @@
 """Pictures of tables, by gnuplot."""
-from __future__ import annotations
-
-import csv
-import io
 import os
 import shutil
 import subprocess
-from dataclasses import dataclass, field
-from typing import Iterable, Mapping
+from typing import Iterable, Mapping, NamedTuple
 
-from .exact import columns_of, needs_no_roles
-from .plans import Plan, Refused, cells, read_text
-from .shares import Kind, Rule, World
-from .tables import Line, Table, check_fits, table_of
+from .exact import crash_share, needs_no_roles
+from .plans import Plan, Refused, cells
+from .tables import Line, Table, check_fits, rows_in
 
 TERMINALS = {
     ".svg": 'svg size {width},{height} font "sans-serif,16" background "white"',
@@ -45,7 +39,6 @@ def points(places: Iterable[tuple[int, list[int]]], part: str, foot: float) -> P
 
 
 def curves(lines: Mapping[str, Points], is_dashed: bool) -> list[str]:
-    """The commands that draw lines, by their titles."""
     blocks, plots = [], []
     for number, (title, its) in enumerate(lines.items()):
         if its:
@@ -96,7 +89,7 @@ def check_lines(name: str, what: str, count: int) -> None:
 
 
 def plot_gaps(table: Table, picture: str) -> None:
-    """Draws a table: for each K the conflicts by H - L and the silence by L, with a line for each F."""
+    """Draws for each K the conflicts by H - L and the silence by L, with a line for each F."""
     rings = sorted({it.k for it in table.lines if it.f > 0})
     if not rings:
         raise Refused(f"{table.name}: nobody fails in any of its cells, so there are no conflicts to draw")
@@ -106,19 +99,17 @@ def plot_gaps(table: Table, picture: str) -> None:
     draw(picture, [*first, *panels, "unset multiplot"], 520, 410 * 2 * len(rings))
 
 
-@dataclass(frozen=True)
-class View:
+class View(NamedTuple):
     """What is drawn of a table: a share, along a column, with a line for each value of another, where others have a value."""
 
     part: str
     along: str
     each: str
-    where: dict[str, str] = field(default_factory=dict)
+    where: dict[str, str]
 
 
 def rows_of(name: str, text: bytes, view: View) -> list[dict[str, str]]:
-    """The rows of a table that are drawn."""
-    rows = list(csv.DictReader(io.StringIO(text.decode(errors="replace"))))
+    rows = rows_in(text)
     columns = (view.along, view.each, *view.where, "receivers", "silent", "conflicts")
     lacking = [it for it in columns if not rows or it not in rows[0]]
     if lacking:
@@ -128,8 +119,8 @@ def rows_of(name: str, text: bytes, view: View) -> list[dict[str, str]]:
         where = ", ".join(f"{it} is {value}" for it, value in view.where.items())
         raise Refused(f"{name}: no line is left where {where}")
     if len({(row[view.along], row[view.each]) for row in found}) < len(found):
-        both = f"one {view.along} and one {view.each}"
-        raise Refused(f"{name}: some lines have {both}; say by --where which of them are drawn")
+        what = f"some lines have one {view.along} and one {view.each}"
+        raise Refused(f"{name}: {what}; say by --where which of them are drawn")
     return found
 
 
@@ -158,19 +149,16 @@ def plot_rare(plan: Plan, table: Table, picture: str) -> None:
     table, with bars for their bounds."""
     check_fits(plan, table)
     if not needs_no_roles(plan):
-        raise Refused(
-            "curves are drawn of crashes alone, whose observers speak, without implicit alerts: of other plans each trial "
-            "has shares of its own"
-        )
-    pairs = list(dict.fromkeys((k, h, l) for k, h, l, _ in cells(plan)))
+        what = "crashes alone, whose observers speak, without implicit alerts"
+        raise Refused(f"curves are drawn of {what}: of other plans each trial has shares of its own")
+    pairs = list(dict.fromkeys(cell[:3] for cell in cells(plan)))
     failures = [f for f in plan["f"] if f > 1]
     if len(pairs) > len(COLOURS) or not failures:
         raise Refused(f"at most {len(COLOURS)} curves are drawn, over two failed processes or more")
     blocks, plots = [], []
     for number, ((k, h, l), colour) in enumerate(zip(pairs, COLOURS)):
-        exact = [(f, float(columns_of(World(((Kind(k, True), f),)), Rule(h, l), 1, 1).conflicts)) for f in failures]
-        lines = [it for it in table.lines if (it.k, it.h, it.l) == (k, h, l) and it.conflicts]
-        counted = [(it.f, it.share("conflict")) for it in lines]
+        exact = [(f, float(crash_share(k, h, l, f))) for f in failures]
+        counted = [(it.f, it.share("conflict")) for it in table.lines if it.cell[:3] == (k, h, l) and it.conflicts]
         rows = "\n".join(f"{f} {share}" for f, share in exact if share)
         marks = "\n".join(f"{f} {it.share} {it.low} {it.high}" for f, it in counted) or "1 NaN NaN NaN"
         blocks += [f"$exact{number} << EOD\n{rows}\nEOD", f"$counted{number} << EOD\n{marks}\nEOD"]
@@ -181,12 +169,3 @@ def plot_rare(plan: Plan, table: Table, picture: str) -> None:
     first += ["set yrange [1e-14:1]", 'set format y "10^{%T}"', "set termoption enhanced"]
     first += ['set xlabel "failed processes"', f"set xtics ({', '.join(map(str, failures))})"]
     draw(picture, [*first, *blocks, "plot " + ", ".join(plots)], 620, 640)
-
-
-def plot(path: str, picture: str, view: View | None) -> None:
-    """Draws the table of a file."""
-    text = read_text(path)
-    if view is None:
-        plot_gaps(table_of(path, text), picture)
-    else:
-        plot_along(path, text, picture, view)

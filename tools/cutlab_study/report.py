@@ -1,6 +1,4 @@
 """A table as one page of HTML, which needs no network and no scripts: report.html with what is found."""
-from __future__ import annotations
-
 import json
 import math
 from fractions import Fraction
@@ -11,13 +9,11 @@ from string import Template
 from .choose import Limits, Pair, choose
 from .exact import exact
 from .plans import Cell, Plan, Refused
-from .tables import Line, Share, Table, check_fits, shown
+from .tables import Line, Table, check_fits, shown
 
 WIDE, HIGH, LEFT, TOP = 172, 104, 64, 34
-# The rarest share that has a shade of its own.
-RAREST = 1e-6
-# The lightest and the darkest shade, as red, green and blue.
-LIGHT, DARK = (255, 247, 230), (150, 20, 20)
+# The rarest share that has a shade of its own; the lightest and the darkest shade, as red, green and blue.
+RAREST, LIGHT, DARK = 1e-6, (255, 247, 230), (150, 20, 20)
 PREMISE = (
     "The exact share holds where every order of the alerts at a receiver is equally likely. That the draws behave so is what "
     "the comparison shows; no proof says it."
@@ -44,17 +40,13 @@ def svg(wide: int, high: int, label: str, parts: list[str]) -> str:
     return f'<div class="wide"><svg {box} role="img" aria-label="{label}">{"".join(parts)}</svg></div>'
 
 
-def bounds(share: Share) -> str:
-    return f"[{shown(share.low)}, {shown(share.high)}]"
-
-
 def field(it: Line, x: int, y: int, known: Fraction | None, is_chosen: bool) -> str:
     """A field of a grid: its shade is the share of conflicts, its letters that, silence and right ones with their bounds."""
     conflicts, silent, right = (it.share(name) for name in ("conflict", "silent", "right"))
     shade, ink = colour(conflicts.share)
-    rows = [f"conflicts {shown(conflicts.share)}", bounds(conflicts)]
+    rows = [f"conflicts {shown(conflicts.share)}", conflicts.bounds]
     rows += [] if known is None else [f"exact {shown(float(known))}"]
-    rows += [f"{name} {shown(its.share)} {bounds(its)}" for name, its in (("silent", silent), ("right", right))]
+    rows += [f"{name} {shown(its.share)} {its.bounds}" for name, its in (("silent", silent), ("right", right))]
     kinds = [f' class="{ink} {"small" if at else ""}"' for at in range(len(rows))]
     texts = [text(x + 6, y + 20 + 18 * at, row, kind) for at, (row, kind) in enumerate(zip(rows, kinds))]
     mark = [rect(x + 2, y + 2, WIDE - 4, HIGH - 4, 'class="chosen"')] if is_chosen else []
@@ -64,7 +56,7 @@ def field(it: Line, x: int, y: int, known: Fraction | None, is_chosen: bool) -> 
 
 
 def grid(lines: list[Line], known: dict[Cell, Fraction], chosen: set[Pair]) -> str:
-    """The grid of H by L for one number of rings and of failed processes."""
+    """The fields of one number of rings and of failed processes, by H and L."""
     highs, lows = sorted({it.h for it in lines}, reverse=True), sorted({it.l for it in lines})
     columns = {l: LEFT + WIDE * at for at, l in enumerate(lows)}
     rows = {h: TOP + HIGH * at for at, h in enumerate(highs)}
@@ -77,7 +69,6 @@ def grid(lines: list[Line], known: dict[Cell, Fraction], chosen: set[Pair]) -> s
 
 
 def scale() -> str:
-    """The scale of the shades."""
     shares, how = (0.0, 1e-5, 1e-4, 1e-3, 1e-2, 1e-1, 1.0), ' text-anchor="middle" class="small"'
     fields = [rect(70 * at, 0, 70, 22, f'fill="{colour(it)[0]}"') for at, it in enumerate(shares)]
     fields += [text(70 * at + 35, 38, shown(it), how) for at, it in enumerate(shares)]
@@ -101,7 +92,6 @@ def exact_shares(plan: Plan, trials: int) -> tuple[dict[Cell, Fraction], str]:
 
 
 def page(plan: Plan, table: Table, limits: Limits, trials: int) -> str:
-    """The page of a plan and its table."""
     check_fits(plan, table)
     known, of_exact = exact_shares(plan, trials)
     try:

@@ -1,10 +1,8 @@
 """Tables that the program printed: their lines, shares with bounds, and sums."""
-from __future__ import annotations
-
 import csv
 import io
 import math
-from dataclasses import dataclass
+from typing import NamedTuple
 
 from .plans import Cell, Plan, Refused, cells, read_text
 
@@ -13,14 +11,17 @@ COUNTS = ("trials", "receivers", "conflicts", "silent", "extra", "votes", "decid
 DISTANCE = 1.959964
 
 
-@dataclass(frozen=True)
-class Share:
+class Share(NamedTuple):
     """A share that was counted: of `of` unrelated tries, with the bounds between which the chance lies with 95 % (Wilson)."""
 
     share: float
     low: float
     high: float
     of: int
+
+    @property
+    def bounds(self) -> str:
+        return f"[{shown(self.low)}, {shown(self.high)}]"
 
     def __str__(self) -> str:
         return f"{shown(self.share)} ({shown(self.low)} to {shown(self.high)})"
@@ -44,10 +45,7 @@ def share_of(count: float, of: int, tries: int | None = None) -> Share:
     return Share(found, max(0.0, middle - half) if found > 0 else 0.0, min(1.0, middle + half) if found < 1 else 1.0, n)
 
 
-@dataclass(frozen=True)
-class Line:
-    """A line of a table: a cell with its sums."""
-
+class Line(NamedTuple):
     k: int
     h: int
     l: int
@@ -76,8 +74,7 @@ class Line:
 
     def share(self, what: str) -> Share:
         """A share: of all receivers, each of which has an order of its own, or of trials. Those of a trial share who fails
-        and who observes whom, so that for silence a trial is one try. A conflict may also be one of those that proposed.
-        """
+        and who observes whom, so that for silence a trial is one try."""
         receivers, trials = self.receivers, self.trials
         counted: dict[str, tuple[int, int, int]] = {
             "conflict": (self.conflicts, receivers, receivers),
@@ -89,15 +86,18 @@ class Line:
         return share_of(*counted[what])
 
 
-@dataclass(frozen=True)
-class Table:
+class Table(NamedTuple):
     """A table, with the name by which it was given."""
 
     name: str
-    lines: tuple[Line, ...]
+    lines: list[Line]
 
 
-def line_of(name: str, number: int, row: dict[str, str | None]) -> Line:
+def rows_in(text: bytes) -> list[dict[str, str]]:
+    return list(csv.DictReader(io.StringIO(text.decode(errors="replace"))))
+
+
+def line_of(name: str, number: int, row: dict[str, str]) -> Line:
     try:
         values = {it: int(row[it] or "") for it in ("k", "h", "l", "f", *COUNTS[:-1])}
         settled = int(row["settled"] or "") if row.get("settled") is not None else None
@@ -109,8 +109,7 @@ def line_of(name: str, number: int, row: dict[str, str | None]) -> Line:
 
 
 def table_of(name: str, text: bytes) -> Table:
-    reader = csv.DictReader(io.StringIO(text.decode(errors="replace")))
-    lines = tuple(line_of(name, number, row) for number, row in enumerate(reader, 2))
+    lines = [line_of(name, number, row) for number, row in enumerate(rows_in(text), 2)]
     if not lines:
         raise Refused(f"{name}: it has no lines; a table has a header and a line for each cell")
     if len({it.cell for it in lines}) < len(lines):

@@ -1,6 +1,4 @@
 """Tests of tools/study: python3 -m unittest discover tools/tests"""
-from __future__ import annotations
-
 import json
 import math
 import sys
@@ -13,16 +11,13 @@ from typing import Any
 sys.path.insert(0, str(Path(__file__).resolve().parents[1]))
 
 from cutlab_study import choose, exact, plans, report, tables, vary  # noqa: E402
+from cutlab_study.exact import crash_share as conflicts  # noqa: E402
 from cutlab_study.shares import Kind, Rule, World  # noqa: E402
 from cutlab_tools.plans import SMALLEST  # noqa: E402
 
 HEADER = "k,h,l,f,trials,receivers,conflicts,silent,extra,votes,decided,right,ppm\n"
 PLAN = SMALLEST | dict(dead="speak", f=[2], h=[2, 3], implicit=False, k=[3], nodes=10, repeats=5)
 ROWS = ("3,2,1,2,5,40,16,0,0,24,0,0,400000", "3,3,1,2,5,40,4,0,0,36,5,5,100000")
-
-
-def conflicts(k: int, h: int, l: int, f: int) -> Fraction:
-    return exact.columns_of(World(((Kind(k, True), f),)), Rule(h, l), 1, 1).conflicts
 
 
 def table(*rows: str) -> tables.Table:
@@ -136,8 +131,7 @@ class Tables(unittest.TestCase):
     def test_what_is_no_table(self) -> None:
         rows = ("1,1,1,1,2,0,0,0,0,0,0,0,0\n", "1,1,1,1,2,8,0,0,0,8,2,2,0\n" * 2)
         for text in ("", HEADER, "a,b\n1,2\n", *(HEADER + it for it in rows)):
-            with self.assertRaises(plans.Refused):
-                tables.table_of("text", text.encode())
+            self.assertRaises(plans.Refused, tables.table_of, "text", text.encode())
 
     def test_a_table_comes_back(self) -> None:
         text = HEADER + "1,1,1,1,2,8,2,0,0,8,2,2,250000\n"
@@ -157,10 +151,14 @@ class Tables(unittest.TestCase):
                     vary.pool([(one, csv), (second, csv)])
 
     def test_values_of_fields(self) -> None:
-        self.assertEqual(vary.value_of("seed", "0" * 64), "0" * 64)
-        self.assertEqual(vary.value_of("h", "8,9"), [8, 9])
-        self.assertEqual(vary.value_of("implicit", "true"), True)
-        self.assertEqual(vary.value_of("dead", "speak"), "speak")
+        texts = {
+            "seed": ("0" * 64, "0" * 64),
+            "h": ("8,9", [8, 9]),
+            "implicit": ("true", True),
+            "dead": ("speak", "speak"),
+        }
+        for field, (text, value) in texts.items():
+            self.assertEqual(vary.value_of(field, text), value)
 
     def test_differences(self) -> None:
         self.assertTrue(vary.differ(tables.share_of(10, 1000), tables.share_of(40, 1000)))
@@ -177,8 +175,8 @@ class Reports(unittest.TestCase):
             self.assertNotIn(part, text)
 
     def test_another_plan_is_refused(self) -> None:
-        with self.assertRaises(plans.Refused):
-            report.page(plan(), table(ROWS[0]), choose.Limits(None, None, None), 1)
+        limits = choose.Limits(None, None, None)
+        self.assertRaises(plans.Refused, report.page, plan(), table(ROWS[0]), limits, 1)
 
 
 if __name__ == "__main__":
