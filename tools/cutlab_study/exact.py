@@ -118,7 +118,6 @@ class CellColumns(NamedTuple):
 
 
 def worlds_of(plan: Plan, layout: reference.Layout, number: int, count: int) -> list[World]:
-    """The worlds of the first trials of a cell."""
     cell, first = cells(plan)[number], number * plan["repeats"]
     sources = (reference.Source(plan, trial) for trial in range(first, first + count))
     return [world_of(plan, layout, reference.Roles(plan, cell[3], it, layout), cell) for it in sources]

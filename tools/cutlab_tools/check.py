@@ -72,7 +72,6 @@ def part(*words: str | Path, counts: str = "", cases: int = 1, cwd: Path = ROOT)
 
 
 def build(program: Path) -> Result:
-    """Builds the program."""
     try:
         build_unproved(ROOT, program)
     except NotBuilt as why:
@@ -93,7 +92,6 @@ def tool(words: str) -> Result:
 
 
 def campaign(words: str, first: int, count: int, seed: str, program: Path) -> Result:
-    """Tries cases of a campaign."""
     name, *rest = words.split()
     drawn = ["--forget", "--seed", seed, "--from", str(first), "--count", str(count)]
     return part(ROOT / "campaigns" / name, "--program", program, *drawn, *rest, cases=count)
@@ -126,7 +124,6 @@ def short(listed: list[Command]) -> list[Command]:
 
 
 def pages(program: Path) -> Result:
-    """Runs the short commands of README.md and the guides, and compares what they print with what the pages show."""
     count, differing = try_pages(program, short, SECONDS)
     return Result(count - len(differing), len(differing), "\n".join(differing))
 
@@ -167,7 +164,6 @@ def after(given: argparse.Namespace, program: Path) -> dict[str, Part]:
 
 
 def print_result(name: str, found: Result) -> Result:
-    """Prints a part's line, and all that differs."""
     print(f"{name:<36}{found.passed:>6} passed{found.failed:>4} failed{found.seconds:>7.1f} s", flush=True)
     if found.printed:
         print(found.printed, flush=True)

@@ -5,7 +5,7 @@ import json
 import random
 import re
 from functools import reduce
-from typing import Any, NamedTuple
+from typing import Any, NamedTuple, Optional, Sequence
 
 from .paths import DATA, reference
 from .plans import Plan, text_of
@@ -24,7 +24,6 @@ TOKENS, NUMBERS = ([bytes_of(piece) for piece in MISTAKES[name]] for name in ("t
 
 
 def spoil(rng: random.Random, plan: Plan) -> None:
-    """Changes, drops or adds one field."""
     field = rng.choice(sorted(plan))
     way = rng.randrange(5)
     if way == 0:
@@ -120,8 +119,12 @@ class Write(NamedTuple):
         return Write(self.place, written)
 
 
-def crash_image(rng: random.Random, calls: list[Write | None]) -> bytes:
-    """The file as a crash after these calls may leave it: writes, and syncs, which are None."""
+# Of a run: its writes, and its syncs, as None.
+Calls = Sequence[Optional[Write]]
+
+
+def crash_image(rng: random.Random, calls: Calls) -> bytes:
+    """The file as a crash after these calls may leave it."""
     synced = max((at for at, call in enumerate(calls, 1) if call is None), default=0)
     stable = reduce(lambda held, write: write.put(held), filter(None, calls[:synced]), b"")
     torn = [write.torn(rng) for write in filter(None, calls[synced:])]

@@ -67,7 +67,6 @@ def work_of(plan: Plan) -> int:
 
 
 def trials_of(plan: Plan) -> int:
-    """How many trials a plan has."""
     return int(len(reference.cells(plan)) * plan["repeats"])
 
 

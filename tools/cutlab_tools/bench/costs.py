@@ -52,7 +52,6 @@ def keys_of(plan: Plan) -> float:
 
 
 def cost_of(command: list[str], plan: Path) -> tuple[Cost, bytes]:
-    """The cost of one run over a plan, and the table."""
     begun = time.monotonic()
     with plan.open("rb") as text, tempfile.TemporaryFile() as table:
         child = subprocess.Popen(command, stdin=text, stdout=table)
@@ -113,7 +112,6 @@ def compare(program: Path, is_written: bool) -> int:
 
 
 def print_costs(program: Path, plans: list[Path]) -> None:
-    """Prints the costs of plans by one worker."""
     print(f"{'plan':16}{'seconds':>9}{'trials/s':>10}{'keys/s':>12}{'MiB':>8}")
     for path in plans:
         plan = reference.plan_of(path.read_bytes())
@@ -123,7 +121,6 @@ def print_costs(program: Path, plans: list[Path]) -> None:
 
 
 def print_workers(program: Path, plan: Path) -> None:
-    """Prints the costs of a plan by several workers."""
     print(f"\n{plan.name} by workers\n{'workers':>8}{'seconds':>9}{'times':>7}{'MiB':>8}")
     alone = 0.0
     for workers in WORKERS:

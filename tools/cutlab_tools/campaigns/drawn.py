@@ -50,7 +50,6 @@ def never_right(plan: Plan) -> dict[str, list[int]]:
 
 
 def number_after(lines: str, words: str) -> int | None:
-    """The number that comes after these words at the start of a line."""
     found = re.search(rf"^{words} (\d+)", lines, re.M)
     return int(found[1]) if found else None
 

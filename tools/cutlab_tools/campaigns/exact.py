@@ -1,18 +1,15 @@
 """The exact shares of tools/study beside the definitions, and beside the program.
 
-Each case has two parts. A small world is drawn, with at most seven alerts, and every order of them is given to the
-reference's detector: the orders that end in a conflict, in silence and in an extra are counted, and have to be the exact
-shares of all orders, as whole numbers. Then a plan is drawn, and the program's table of it is set beside the exact shares by
-the roles of its own trials. What is certain, as that nobody is silent, has to be so; of the conflicts the squares of the
-distances, in standard deviations, are added up over the cells. A sum that chance exceeds once in ten million cases is a
-difference: so a run of a thousand cases gives a false alarm once in ten thousand.
-"""
+Each case has two parts. Every order of the alerts of a small world is given to the reference's detector: the orders that end in
+a conflict, in silence and in an extra have to be the exact shares of all orders, as whole numbers. Then the program's table of a
+drawn plan is set beside the exact shares by the roles of its own trials. What is certain, as that nobody is silent, has to be so; of
+the conflicts the squares of the distances, in standard deviations, are added up over the cells. A sum that chance exceeds once
+in ten million cases is a difference: so a run of a thousand cases gives a false alarm once in ten thousand."""
 import itertools
 import json
 import math
 import random
 from fractions import Fraction
-from typing import Any
 
 from cutlab_study import exact
 from cutlab_study.shares import Rule
@@ -32,8 +29,7 @@ class DrawnRoles(reference.Roles):
     def __init__(self, rng: random.Random, nodes: int, layout: reference.Layout) -> None:
         order = rng.sample(range(nodes), nodes)
         failed = rng.randint(0, min(3, nodes - 1))
-        deaf = rng.randint(0, failed)
-        liars = rng.choice([0, 0, 1]) if failed < nodes else 0
+        deaf, liars = rng.randint(0, failed), rng.choice([0, 0, 1])
         self.targets, rest = order[:failed], order[failed + liars :]
         self.crashed, self.deaf = set(order[: failed - deaf]), set(order[failed - deaf : failed])
         self.liars = set(order[failed : failed + liars])
@@ -57,7 +53,6 @@ class SmallWorld:
                 return
 
     def proposed(self, order: tuple[reference.Edge, ...]) -> set[int] | None:
-        """What a receiver proposes by an order, if it does."""
         detector = reference.Detector(self.layout, *self.cell[:3], self.plan["implicit"])
         for edge in order:
             detector.deliver(edge)
@@ -72,8 +67,8 @@ class SmallWorld:
         return [sum(its) for its in zip(*ends)]
 
     def shown(self) -> str:
-        what: dict[str, Any] = {"cell": self.cell, "implicit": self.plan["implicit"], "rings": self.layout.rings}
-        return json.dumps({**what, "alerts": self.edges, "targets": self.roles.targets})
+        what = {"cell": self.cell, "implicit": self.plan["implicit"], "rings": self.layout.rings}
+        return json.dumps(what | {"alerts": self.edges, "targets": self.roles.targets})
 
 
 def trial_columns(plan: Plan, layout: reference.Layout, number: int, line: Line) -> list[exact.Columns]:
@@ -90,7 +85,6 @@ class Exact(Campaign):
         self.check_table({**drawn_plan(rng), "repeats": rng.randint(4, 30)})
 
     def check_orders(self, small: SmallWorld) -> None:
-        """Every order of a small world's alerts beside its exact shares."""
         world = exact.world_of(small.plan, small.layout, small.roles, small.cell)
         columns = exact.columns_of(world, Rule(small.cell[1], small.cell[2]), 1, 1)
         orders = math.factorial(len(small.edges))

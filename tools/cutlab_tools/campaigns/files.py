@@ -5,7 +5,7 @@ import time
 from pathlib import Path
 from typing import Iterator
 
-from ..damage import Write, crash_image, drawn_file, drawn_slips
+from ..damage import Calls, Write, crash_image, drawn_file, drawn_slips
 from ..paths import reference
 from ..plans import Plan, drawn_plan, drawn_seed, drawn_words, slips_in, text_of, trials_in, trials_of, upgrade, work_of
 from ..program import Ended, Program
@@ -52,8 +52,8 @@ class Crashes(Campaign):
     since the last sync any byte may be there, or not, or be another. Each image has to read as the acknowledged slips, or
     these and one more, and to be gone on with."""
 
-    def calls_of(self, text: bytes, piece: int) -> list[Write | None]:
-        """The writes, and the syncs, as None, of a run into a new file, which is the first that it opens."""
+    def calls_of(self, text: bytes, piece: int) -> Calls:
+        """The writes and the syncs of a run into a new file, which is the first that it opens."""
         traced = "-f -xx -s 200000 -e trace=pwrite64,fsync".split()
         command = ["run", "--checkpoint", "study.cut", "--piece", str(piece)]
         done = Program(Path("strace"), self.folder).run(*traced, self.path, *command, text=text)
@@ -73,10 +73,7 @@ class Crashes(Campaign):
             path.write_bytes(left)
             self.expect_run(Ended(table), "run", "--checkpoint", "study.cut", text=text, what=what)
 
-    def check_read(
-        self, what: str, plan: Plan, whole: list[reference.Slip], made: list[Write | None], left: bytes
-    ) -> None:
-        """Checks that an image is read as the slips that were acknowledged, or these and one more."""
+    def check_read(self, what: str, plan: Plan, whole: list[reference.Slip], made: Calls, left: bytes) -> None:
         gates = [bool(write and write.written == GATE) for write in made]
         acknowledged = sum(gates[:-1]) - 1
         try:
@@ -86,9 +83,6 @@ class Crashes(Campaign):
             return
         self.expect(what, whole[: len(slips)], slips)
         self.require(len(slips) in (max(acknowledged, 0), acknowledged + 1), f"the slips of {what}")
-
-
-MOST_WORK = 200_000
 
 
 def long_plan(rng: random.Random, size: float) -> Plan:
@@ -108,16 +102,14 @@ class Kills(Campaign):
 
     def case(self, rng: random.Random) -> None:
         text = text_of(long_plan(rng, self.values["size"]))
-        plan = reference.plan_of(text)
-        begun = time.monotonic()
+        plan, begun = reference.plan_of(text), time.monotonic()
         whole = self.table_of(text, "--workers", "2")
         longest = max(0.08, time.monotonic() - begun)
-        if work_of(plan) < MOST_WORK:
+        if work_of(plan) < 200_000:
             self.expect(f"the table of {text.decode()}", reference.table(plan), whole)
-        trials = trials_of(plan)
-        share = ["share", "1/1"], f"share 1 of 1: {trials} of {trials}\n"
-        command, answer = rng.choice([(["run", "--checkpoint"], whole), share])
-        self.run_to_end(rng, [*command, "study.cut"], text, answer, longest)
+        share = "share 1/1", f"share 1 of 1: {trials_of(plan)} of {trials_of(plan)}\n"
+        command, answer = rng.choice([("run --checkpoint", whole), share])
+        self.run_to_end(rng, [*command.split(), "study.cut"], text, answer, longest)
         self.expect_run(Ended(whole), "run", "--checkpoint", "study.cut", text=text, what="the table at the end")
         slips_in(plan, (self.folder / "study.cut").read_bytes())
 

@@ -69,12 +69,10 @@ class Laws(Campaign):
         self.check_longer(first, {**first, "l": [rng.randint(1, low)]})
 
     def lines_of(self, plan: Plan) -> list[Line]:
-        """The lines of the program's table."""
         names, *rows = [line.split(",") for line in self.table_of(text_of(plan), "--workers", "2").splitlines()]
         return [Line(**dict(zip(names, map(int, row)))) for row in rows]
 
     def check_line(self, plan: Plan, x: Line, what: str) -> None:
-        """The laws on one line."""
         nodes, quorum = plan["nodes"], reference.quorum(plan["nodes"])
         for said, holds in LINE.items():
             self.require(holds(x, nodes, quorum), f"{said}: {what}")

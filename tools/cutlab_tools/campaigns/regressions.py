@@ -8,7 +8,6 @@ from .campaign import FAILURES, REGRESSIONS, campaign_of
 
 
 def difference(path: Path, program: Path) -> str | None:
-    """What differs in a kept case."""
     kept = json.loads(path.read_text())
     campaign = campaign_of(kept["campaign"])(program, kept["options"])
     try:

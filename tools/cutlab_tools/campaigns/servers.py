@@ -13,7 +13,6 @@ from ..plans import SMALLEST, drawn_plan, fault_of, sizes, slips_in, text_of, tr
 from ..program import Child, Ended, Program, connect, end_of, replies_to
 from .campaign import Campaign, Differs
 
-
 SLOTS = 4
 Message = tuple[str, "bytes | None"]
 
@@ -165,16 +164,13 @@ class Session:
         while self.reply()[0] == "T":  # (the only study of the server is run)
             pass
 
-    def taken(self, count: int) -> bytes:
-        """The next bytes of what the server replies."""
-        found = self.replies.read(count)
-        if len(found) < count:
-            raise ConnectionError("it was ended")
-        return found
-
     def reply(self) -> tuple[str, bytes]:
-        head = self.taken(5)
-        return chr(head[0]), self.taken(int.from_bytes(head[1:], "big"))
+        head = self.replies.read(5)
+        size = int.from_bytes(head[1:], "big")
+        payload = self.replies.read(size)
+        if len(head) < 5 or len(payload) < size:
+            raise ConnectionError("it was ended")
+        return chr(head[0]), payload
 
     def answer(self, text: bytes) -> int | str:
         """The number of the fault that the server replies to a text, or what else it replies."""

@@ -50,7 +50,6 @@ class WrongBody(NamedTuple):
         return WrongBody(str(path.relative_to(ROOT)), crate / file[0], list(zip(old, new)), CAMPAIGNS)
 
     def apply(self, place: Path) -> None:
-        """Applies it to a copy of the repository."""
         text = (place / self.file).read_text()
         for old, new in self.changes:
             if old not in text:
@@ -60,7 +59,6 @@ class WrongBody(NamedTuple):
 
 
 def listed() -> list[WrongBody]:
-    """Those of the list."""
     rows = json.loads((DATA / "wrong_bodies.json").read_text())
     return [WrongBody(it["part"], Path(it["file"]), it["changes"], [it["campaign"]]) for it in rows]
 
@@ -101,7 +99,6 @@ def seen(campaigns: Sequence[str], program: Path, seconds: float) -> str:
 
 
 def attempt(body: WrongBody, seconds: float, last: float) -> str:
-    """What is seen of a wrong body."""
     if body.file.parts[2] != "src":
         return f"{NOT_RUN}: it changes no body"
     if time.monotonic() > last:

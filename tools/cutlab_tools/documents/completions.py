@@ -56,7 +56,6 @@ def fish_text(text: str) -> str:
 
 
 def fish(listed: list[Command]) -> Iterator[str]:
-    """The lines of the completions for fish."""
     first = "complete -c cutlab -n __fish_use_subcommand"
     yield f"# Completions of cutlab for fish: put this file where fish looks for completions. {MADE}"
     yield from ("", "complete -c cutlab -f")
@@ -72,7 +71,6 @@ def fish(listed: list[Command]) -> Iterator[str]:
 
 
 def made(repository: Repository) -> dict[str, str]:
-    """The completions by the files that they stand in."""
     listed, found = commands(repository), dict[str, str]()
     for name, shell, words in (("cutlab.bash", "bash", bash(listed)), ("_cutlab", "zsh", zsh(listed))):
         template = Template(repository.read(f"{FOLDER}/{shell}.template"))

@@ -27,7 +27,6 @@ RENAMED |= {"Endless": "Read", "Socket": "Read", "Folder": "Disk"}
 
 
 def differences(repository: Repository) -> Iterator[str]:
-    """What differs, a line for each fault."""
     code: list[tuple[str, ...]] = IN_CODE.findall(repository.read(CODE))
     page: list[tuple[str, ...]] = ON_PAGE.findall(repository.read(FORMATS))
     if not code:

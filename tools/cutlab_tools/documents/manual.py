@@ -45,7 +45,6 @@ def sections(repository: Repository) -> dict[str, str]:
 
 
 def made(repository: Repository) -> dict[str, str]:
-    """The page."""
     listed, included = commands(repository), sections(repository)
     about, version = (repository.read(f"$ cutlab --{it}").split("\n")[0] for it in ("help", "version"))
     if not listed or "NAME" in included:

@@ -55,7 +55,6 @@ Choice = Callable[[list[Command]], list[Command]]
 
 
 def commands(page: str) -> list[Command]:
-    """The commands of a page."""
     found: list[Command] = []
     inside = False
     for number, line in enumerate((ROOT / page).read_text().split("\n"), 1):

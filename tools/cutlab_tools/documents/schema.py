@@ -32,7 +32,6 @@ NOTES = ("$schema", "title", "description", "then", "else")
 
 
 def is_of(schema: Any, value: Any) -> bool:
-    """Whether a value is of a schema."""
     if isinstance(schema, bool):
         return schema
     return all(TESTS[word](said, value, schema) for word, said in schema.items() if word not in NOTES)
@@ -82,7 +81,6 @@ def out_of_range(repository: Repository, name: str, part: Any) -> Iterator[str]:
 
 
 def differences(repository: Repository) -> Iterator[str]:
-    """What differs, a line for each."""
     schema, wanted = json.loads(repository.read(SCHEMA)), explained(repository)
     fields = schema["properties"]
     yield from (f"{name}: in one alone" for name in sorted(set(fields) ^ set(wanted)))

@@ -129,7 +129,6 @@ class Closure:
             self.follow(spec.uses, spec.paragraphs[place], module, spec)
 
     def visit_type(self, path: str, name: str) -> None:
-        """Adds a type, or a constant, of a crate's sources."""
         if (path, name) in self.types:
             return
         text = self.repository.read(path)

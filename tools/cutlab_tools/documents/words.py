@@ -25,7 +25,6 @@ def is_used(term: str, text: str) -> bool:
 
 
 def differences(repository: Repository) -> Iterator[str]:
-    """What is wrong with the glossary, a line for each."""
     text = "\n".join(repository.read(it) for it in tracked_files(*TEXTS) if it != GLOSSARY).lower()
     before = ("", "")
     seen: set[str] = set()

@@ -63,7 +63,6 @@ class Vectors(Cases):
                 self.expect_run(Ended(row["table"]), *words, text=row["plan"].encode())
 
     def test_refusals(self) -> None:
-        """Whether each text is a plan, or by which fault it is refused."""
         for row in vectors_of("refusals"):
             _, errors, status = self.program.run("check", text=row["text"].encode())
             fault = row["fault"]
@@ -82,7 +81,6 @@ class Vectors(Cases):
                 self.expect(f"the file {held['file']}", reading_of(held["reading"]), found)
 
     def test_statuses(self) -> None:
-        """What is printed of a checkpoint file: its status, or the fault of reading it."""
         for row in vectors_of("statuses"):
             path = self.put("study.cut", row["file"])
             self.expect(f"the status of {row['file']}", row["printed"], self.printed(row, "status", path.name))
