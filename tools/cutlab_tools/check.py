@@ -1,11 +1,10 @@
 """The first word on a change, in minutes, with nothing proved: ./check [--seed S] [--times T] [--keep FILE]
 
-The program is built as it stands, unproved and with checks of its own. The cases that differed once are tried first; then the
-program is set against the reference by campaigns/: drawn plans, texts with mistakes, checkpoint files, shares, migrations,
-sessions, and studies that are killed. The tests of a crate are run, and those commands of README.md and the guides that
-need no large study. The layout of the sources, the types and the layout of the tools, and what .ci/run checks of documents are
-looked at. Each part has a line; the last line is `N passed, M failed`.
-"""
+The program is built as it stands, unproved and with checks of its own. The cases that differed once are tried first; then it is
+set against the reference by campaigns/: drawn plans, texts with mistakes, checkpoint files, shares, migrations, sessions, and
+studies that are killed. The tests of a crate are run, and those commands of README.md and the guides that need no large study.
+The layout of the sources, the types and the layout of the tools, and what .ci/run checks of documents are looked at. Each part has a
+line; the last line is `N passed, M failed`."""
 import argparse
 import os
 import re
@@ -49,8 +48,6 @@ SECONDS = 300
 
 
 class Result(NamedTuple):
-    """What a part found: how many cases passed and failed, what is printed of it, and how many seconds it took."""
-
     passed: int
     failed: int
     printed: str = ""
@@ -77,24 +74,6 @@ def build(program: Path) -> Result:
     except NotBuilt as why:
         return Result(0, 1, str(why))
     return Result(1, 0)
-
-
-def whole(words: str, *more: str | Path) -> Result:
-    """Runs a check that passes as a whole."""
-    return part(*f"./{words}".split(), *more)
-
-
-def tool(words: str) -> Result:
-    """Runs a tool over the package, if it is installed."""
-    name = words.split()[0]
-    missing = Result(0, 0, f"{name} is not installed, so the tools were not checked by it")
-    return part(*words.split()) if shutil.which(name) else missing
-
-
-def campaign(words: str, first: int, count: int, seed: str, program: Path) -> Result:
-    name, *rest = words.split()
-    drawn = ["--forget", "--seed", seed, "--from", str(first), "--count", str(count)]
-    return part(ROOT / "campaigns" / name, "--program", program, *drawn, *rest, cases=count)
 
 
 def layout() -> Result:
@@ -140,13 +119,13 @@ def timed(run: Part) -> Result:
 
 def before() -> dict[str, Part]:
     """The parts that need no program, by their names."""
-    test = ["rt", "try", "--test"]
-    parts: dict[str, Part] = {
-        f"tests of {it}": partial(part, *test, counts=RUST_TESTS, cwd=ROOT / "crates" / it) for it in TESTED
-    }
+    test = partial(part, "rt", "try", "--test", counts=RUST_TESTS)
+    parts: dict[str, Part] = {f"tests of {it}": partial(test, cwd=ROOT / "crates" / it) for it in TESTED}
     parts |= {"layout": layout, "tests of tools": partial(part, *UNITS, counts=PYTHON_TESTS)}
-    parts |= {words.split()[0]: partial(tool, words) for words in TOOLS}
-    return parts | {words.split()[0]: partial(whole, words) for words in BY_SOURCES}
+    for name, *more in (words.split() for words in TOOLS):
+        missing = partial(Result, 0, 0, f"{name} is not installed, so the tools were not checked by it")
+        parts[name] = partial(part, name, *more) if shutil.which(name) else missing
+    return parts | {name: partial(part, f"./{name}", *more) for name, *more in (it.split() for it in BY_SOURCES)}
 
 
 def after(given: argparse.Namespace, program: Path) -> dict[str, Part]:
@@ -155,12 +134,17 @@ def after(given: argparse.Namespace, program: Path) -> dict[str, Part]:
     parts: dict[str, Part] = {"regressions": partial(counted, ROOT / "campaigns/regressions", "--program", program)}
     for words, count, shares in CAMPAIGNS:
         each = max(1, round(count * given.times / shares))
+        campaign, *rest = words.split()
+        command = [ROOT / "campaigns" / campaign, "--program", program, "--forget", "--seed", given.seed, *rest]
         for share in range(shares):
             name = f"{words} ({share + 1} of {shares})" if shares > 1 else words
-            parts[name] = partial(campaign, words, share * each, each, given.seed, program)
+            numbers = ["--from", str(share * each), "--count", str(each)]
+            parts[name] = partial(part, *command, *numbers, cases=each)
     parts["commands of the pages"] = partial(pages, program)
     parts |= {name: partial(counted, ROOT / name, program) for name in ("tests/vectors", "tests/program")}
-    return parts | {words.split()[0]: partial(whole, words, program) for words in BY_PROGRAM}
+    return parts | {
+        name: partial(part, f"./{name}", *more, program) for name, *more in (it.split() for it in BY_PROGRAM)
+    }
 
 
 def print_result(name: str, found: Result) -> Result:

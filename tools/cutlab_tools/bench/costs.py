@@ -1,15 +1,13 @@
 """bench/run [PROGRAM] [PLAN..] [--instructions] [--write]: what studies cost.
 
 For each plan, those of bench/plans where none is given, the best of three runs of the program: processor seconds, trials and
-keys a second, and peak memory. A key is drawn for each copy of each alert at each receiver; their number is computed from
-the plan, for noisy plans as an estimate. Then, for `examples/rapid_study.json`, the best of three by 1, 2 and 4 workers:
-seconds on the clock, and how many times as fast that is as by one.
+keys a second, and peak memory. A key is drawn for each copy of each alert at each receiver; for noisy plans their number is an
+estimate. Then, for `examples/rapid_study.json`, the best of three by 1, 2 and 4 workers: seconds on the clock, and how many
+times as fast that is as by one. Seconds are noise on most machines, so they are compared with nothing.
 
 At the end the instructions of each plan of bench/counted, by callgrind where valgrind is installed, beside those of
 bench/figures.json, which are of the proved program: what became slower by more than 3 % is said, and the status is then 1.
-With --instructions nothing else is done; with --write the figures are kept there. Seconds are noise on most machines, so
-they are compared with nothing.
-"""
+With --instructions nothing else is done; with --write the figures are kept there."""
 import json
 import os
 import re
@@ -25,7 +23,6 @@ from ..arguments import parser
 from ..paths import ROOT, reference
 from ..plans import Plan, trials_of
 
-WORKERS = (1, 2, 4)
 PLANS, COUNTED = (sorted(ROOT.glob(f"bench/{folder}/*.json")) for folder in ("plans", "counted"))
 FIGURES = ROOT / "bench" / "figures.json"
 # By how much a plan may take more instructions than its figure says.
@@ -33,10 +30,8 @@ TOLERANCE = 0.03
 
 
 class Cost(NamedTuple):
-    """What a run took: seconds of a processor, MiB of memory at the peak, and seconds on the clock."""
-
-    seconds: float
-    memory: float
+    seconds: float  # of a processor
+    memory: float  # in MiB, at the peak
     clock: float
 
 
@@ -122,11 +117,9 @@ def print_costs(program: Path, plans: list[Path]) -> None:
 
 def print_workers(program: Path, plan: Path) -> None:
     print(f"\n{plan.name} by workers\n{'workers':>8}{'seconds':>9}{'times':>7}{'MiB':>8}")
-    alone = 0.0
-    for workers in WORKERS:
-        cost, _ = best_cost([str(program), "run", "--workers", str(workers)], plan)
-        alone = alone or cost.clock
-        print(f"{workers:8}{cost.clock:9.3f}{alone / cost.clock:7.2f}{cost.memory:8.1f}")
+    costs = {it: best_cost([str(program), "run", "--workers", str(it)], plan)[0] for it in (1, 2, 4)}
+    for workers, cost in costs.items():
+        print(f"{workers:8}{cost.clock:9.3f}{costs[1].clock / cost.clock:7.2f}{cost.memory:8.1f}")
 
 
 def main() -> int:
