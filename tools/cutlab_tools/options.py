@@ -10,10 +10,10 @@ FOLDERS, FILES = {"DIR"}, {"FILE", "SOCKET", "OLD", "NEW", "OLD..", "PLAN"}
 
 
 class Argument(NamedTuple):
-    """A word, an option or a flag: its name, what its value is called if it has one, its help and its default."""
+    """A word, an option or a flag."""
 
     name: str
-    value: str
+    value: str  # what it is called, if it has one
     help: str
     default: str | None
     is_word: bool
@@ -33,12 +33,10 @@ class Argument(NamedTuple):
 
 
 class Command(NamedTuple):
-    """A command: its name, what it does, its arguments in the order of its help, and the lines of that."""
-
     name: str
     about: str
     arguments: list[Argument]
-    lines: list[str]
+    lines: list[str]  # of its help
 
     @property
     def options(self) -> list[Argument]:

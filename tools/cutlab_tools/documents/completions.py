@@ -1,6 +1,5 @@
 """docs/completions/make [--check] [PROGRAM]: makes the completions for bash, zsh and fish from the help of the program. With
---check it writes nothing, prints which of the three differs, and ends with 1 where one does.
-"""
+--check it writes nothing, prints which of the three differs, and ends with 1 where one does."""
 import re
 from string import Template
 from typing import Iterator
@@ -15,10 +14,9 @@ HELP = Command("help", "Print the help of a command", [], [])
 def bash(listed: list[Command]) -> dict[str, str]:
     """What its template takes for bash."""
     valued = {it.name: it for command in listed for it in command.options if it.value}
-    files, folders = ([it.name for it in valued.values() if getattr(it, kind)] for kind in ("is_file", "is_folder"))
     reply = 'mapfile -t COMPREPLY < <(compgen {} -- "$current")'.format
-    groups = [(files, f'{reply("-f")}; '), (folders, f'{reply("-d")}; ')]
-    groups.append(([name for name, it in valued.items() if it.is_valued], ""))
+    actions = {"is_file": f'{reply("-f")}; ', "is_folder": f'{reply("-d")}; ', "is_valued": ""}
+    groups = [([name for name, it in valued.items() if getattr(it, kind)], action) for kind, action in actions.items()]
     values = [f"    --{' | --'.join(its)}) {action}return ;;" for its, action in groups if its]
     lines = []
     for command in listed:

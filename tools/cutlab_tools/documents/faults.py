@@ -4,8 +4,7 @@
 - The crates' faults, each of which stands for one of the list, stand for that of the same name, but for those of `RENAMED`;
   and each of the list stands for some fault of a crate.
 
-It prints what differs, and ends with 1 where something does.
-"""
+It prints what differs, and ends with 1 where something does."""
 import re
 from itertools import zip_longest
 from typing import Iterator
@@ -22,8 +21,14 @@ STANDS_FOR = re.compile(
     r"^(?:code|number)_of\w* \(?(?:\w+\.)?(\w+)[^=]*= (?:[\w.]*number_of )?(?:code\.)?([A-Z]\w+)$", re.M
 )
 # Faults that say more by another name: of memory while a study is run, of what is written or read, and of a place.
-RENAMED = {"Memory": "WorkMemory", "Request": "Write", "Output": "Write"}
-RENAMED |= {"Endless": "Read", "Socket": "Read", "Folder": "Disk"}
+RENAMED = {
+    "Memory": "WorkMemory",
+    "Request": "Write",
+    "Output": "Write",
+    "Endless": "Read",
+    "Socket": "Read",
+    "Folder": "Disk",
+}
 
 
 def differences(repository: Repository) -> Iterator[str]:

@@ -1,8 +1,6 @@
 """docs/manual/make [--check] [PROGRAM]: makes the man page docs/cutlab.1 from the help of the program, in the form in which
-help2man makes one, with the sections of docs/manual/include. With --check it writes nothing, and says what differs.
-
-An option's range in the help is compared with what the program takes, as it says where it refuses a number.
-"""
+help2man makes one, with the sections of docs/manual/include. With --check it writes nothing, and says what differs. An option's
+range in the help is compared with what the program takes, as it says where it refuses a number."""
 import re
 from typing import Iterator
 
@@ -39,7 +37,7 @@ def command_lines(command: Command) -> Iterator[str]:
 
 
 def sections(repository: Repository) -> dict[str, str]:
-    """The sections of the include, by their names: each begins with a line of its name in brackets."""
+    """The sections of the include, each of which begins with a line of its name in brackets."""
     parts = re.split(r"^\[([A-Z ]+)\]\n", repository.read(INCLUDE), flags=re.M)
     return dict(zip(parts[1::2], (it.strip("\n") for it in parts[2::2])))
 

@@ -1,7 +1,6 @@
 """Checks docs/plan.schema.json: that the plans of the repository are of it, and that its fields are those that the program
 explains, with the same kinds and ranges, which `cutlab check` keeps: docs/schema [PROGRAM]. It prints what differs, and
-ends with 1 where something does.
-"""
+ends with 1 where something does."""
 import json
 import re
 from typing import Any, Callable, Iterator
@@ -40,10 +39,9 @@ def is_of(schema: Any, value: Any) -> bool:
 def explained(repository: Repository) -> dict[str, set[str]]:
     """What the program says that it expects in each field, by all versions."""
     found: dict[str, set[str]] = {}
-    for plan in ("{}", '{"version":1}', '{"version":2}'):
-        said = repository.read(f"$ cutlab explain < {plan}")
-        for name, expected in re.findall(r"^(\w+): missing; expected (.*)$", said, re.M):
-            found.setdefault(name, set()).add(expected)
+    said = "".join(repository.read(f"$ cutlab explain < {it}") for it in ("{}", '{"version":1}', '{"version":2}'))
+    for name, expected in re.findall(r"^(\w+): missing; expected (.*)$", said, re.M):
+        found.setdefault(name, set()).add(expected)
     return found
 
 
@@ -57,10 +55,8 @@ def described(part: Any, nodes: int) -> str:
         texts = " or ".join(f'"{it}"' for it in items.get("enum", []))
         return f"a text of {digits[1]} hexadecimal digits" if digits else texts
     low, high = range_of(part)
-    if items is part:
-        return f"a whole number from {low} to {high}"
-    bounds = "below nodes" if (low, high) == (0, nodes - 1) else f"from {low} to {high}"
-    return f"a strictly rising list of whole numbers {bounds}"
+    bounds = "below nodes" if items is not part and (low, high) == (0, nodes - 1) else f"from {low} to {high}"
+    return f"a {'whole number' if items is part else 'strictly rising list of whole numbers'} {bounds}"
 
 
 def range_of(part: Any) -> tuple[int, int]:

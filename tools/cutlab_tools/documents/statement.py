@@ -51,8 +51,7 @@ class Uses:
     """The names that a file takes from others: each with its module and its name there."""
 
     def __init__(self, lines: Iterable[str]) -> None:
-        self.names: dict[str, Cited] = {}
-        self.modules: dict[str, str] = {}
+        self.names, self.modules = dict[str, Cited](), dict[str, str]()
         for line in lines:
             found = USE.match(line)
             if not found:
@@ -75,8 +74,7 @@ class Spec:
 
     def __init__(self, path: str, text: str) -> None:
         self.path, self.uses = path, Uses(line for line in text.split("\n") if line.startswith("use "))
-        self.paragraphs: list[str] = []
-        self.place: dict[str, int] = {}
+        self.paragraphs, self.place = list[str](), dict[str, int]()
         for paragraph in re.split(r"\n\s*\n", text):
             lines = [line for line in paragraph.split("\n") if not line.startswith(("use ", "pub use "))]
             lines = [line for line in lines if not line.strip().startswith("-- ----")]
@@ -180,10 +178,10 @@ class Page:
 
     def definitions(self, *words: str) -> list[str]:
         lines = []
-        for module in map(module_of, words):
+        for word, module in zip(words, map(module_of, words)):
             spec = self.closure.spec(module)
             if spec is None:
-                raise NotMade(f"the skeleton names {module}, and there is no such file")
+                raise NotMade(f"the skeleton names {word}, and there is no such file")
             texts = [text for (of, _), text in sorted(self.closure.found.items()) if of == module]
             lines += self.block(module, spec.path, "text", texts)
         return lines

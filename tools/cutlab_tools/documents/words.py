@@ -1,6 +1,5 @@
 """Checks docs/GLOSSARY.md: each term has a home that is there, stands in the order of the alphabet, has one meaning, and is used
-in a page or a source beside the glossary. It prints what it finds, and ends with 1 where it found something.
-"""
+in a page or a source beside the glossary. It prints what it finds, and ends with 1 where it found something."""
 import re
 from typing import Iterator
 
@@ -8,13 +7,11 @@ from ..paths import tracked_files
 from ..repository import Repository
 
 GLOSSARY = "docs/GLOSSARY.md"
-TEXTS = ("*.rt", "*.antt", "*.md")
-HEADINGS = ("## Of the field", "## Of this program")
 
 
 def terms(repository: Repository) -> Iterator[tuple[str, str, str]]:
     """The terms with the heading that they stand under and their homes."""
-    for heading in HEADINGS:
+    for heading in ("## Of the field", "## Of this program"):
         yield from ((heading, term, home.strip("`")) for term, _, home in repository.rows(GLOSSARY, heading))
 
 
@@ -25,9 +22,9 @@ def is_used(term: str, text: str) -> bool:
 
 
 def differences(repository: Repository) -> Iterator[str]:
-    text = "\n".join(repository.read(it) for it in tracked_files(*TEXTS) if it != GLOSSARY).lower()
-    before = ("", "")
-    seen: set[str] = set()
+    texts = tracked_files("*.rt", "*.antt", "*.md")
+    text = "\n".join(repository.read(it) for it in texts if it != GLOSSARY).lower()
+    before, seen = ("", ""), set[str]()
     for heading, term, home in terms(repository):
         if not repository.has(home):
             yield f"{GLOSSARY}: {term}: its home {home} is not there"
