@@ -82,8 +82,7 @@ def said_of(it: Worst) -> list[str]:
 
 
 def choose(table: Table, limits: Limits, order: str, best: int) -> tuple[set[Pair], list[str]]:
-    """The best pairs for each number of rings, and what is said of them; where none keeps to the limits it is refused, with
-    the nearest."""
+    """The best pairs for each number of rings, and what is said of them; where there are none, the nearest is."""
     pairs: dict[Pair, list[Line]] = {}
     for it in table.lines:
         if it.f > 0:

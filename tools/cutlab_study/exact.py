@@ -16,8 +16,7 @@ MOST_STEPS, LEAST_STEPS = 2 * 10**9, 10**5
 
 
 class Columns(NamedTuple):
-    """The chances of a receiver that it is in conflict, silent, or proposes one that did not fail, and of a trial that it is
-    decided, and decided by the failed ones alone."""
+    """The chances of a receiver's verdicts, and of a trial that it is decided, and decided by the failed ones alone."""
 
     conflicts: Fraction
     silent: Fraction
@@ -108,8 +107,7 @@ def needs_no_roles(plan: Plan) -> bool:
 
 
 class CellColumns(NamedTuple):
-    """A cell with its columns, and the mean of how many trials' roles they are: none where they don't depend on roles. A cell
-    that would take too long has no columns, and why not."""
+    """A cell with its columns, and of how many trials' roles they are the mean; where it would take too long, why."""
 
     cell: Cell
     columns: Columns | None
@@ -151,8 +149,7 @@ def ladder(k: int, failures: Sequence[int]) -> list[tuple[int, int, int, Fractio
 
 
 def chance_of_more(square_sum: float, count: int) -> float:
-    """How often the squares of `count` normal variables add up to more than this: from that of one or of two variables on,
-    each two more add one term."""
+    """How often the squares of `count` normal variables add up to more than this: each two more add one term."""
     x = square_sum / 2
     found, a = (math.erfc(math.sqrt(x)), 0.5) if count % 2 else (math.exp(-x), 1.0)
     for more in range(count // 2 if count % 2 else count // 2 - 1):

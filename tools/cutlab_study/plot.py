@@ -27,8 +27,7 @@ def logarithmic(low: str, foot: str, *marks: str) -> str:
 
 
 def points(places: Iterable[tuple[int, list[int]]], part: str, foot: float) -> Points:
-    """The points of a line: of places with their sums conflicts of those that proposed, not below the foot of a scale, or
-    silent ones of all."""
+    """Of places with their sums: conflicts of those that proposed, not below the foot of a scale, or silent ones of all."""
     found: Points = []
     for at, (receivers, silent, conflicts) in places:
         if part == "silent":
@@ -145,8 +144,7 @@ def plot_along(name: str, text: bytes, picture: str, view: View) -> None:
 
 
 def plot_rare(plan: Plan, table: Table, picture: str) -> None:
-    """Draws the exact shares of conflicts over F, a curve for each K, H and L of a plan, and on them the shares of its
-    table, with bars for their bounds."""
+    """Draws the exact shares of conflicts over F, a curve for each K, H and L, and on them the table's with their bounds."""
     check_fits(plan, table)
     if not needs_no_roles(plan):
         what = "crashes alone, whose observers speak, without implicit alerts"

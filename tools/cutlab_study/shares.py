@@ -15,8 +15,7 @@ integral of f_S(v) B_R(v), where B_R(v) is the chance that none of R is reported
 All of these are polynomials. In powers u^n / n! they have whole coefficients, so the chances are exact fractions.
 
 Processes of one kind are taken by number. With implicit alerts a process needs fewer alerts of its own, the more of its
-observers are in the proposed set; processes that observe one another are then taken one by one.
-"""
+observers are in the proposed set; processes that observe one another are then taken one by one."""
 from fractions import Fraction
 from collections import Counter
 from functools import lru_cache, reduce
@@ -161,8 +160,7 @@ class World(NamedTuple):
 
 
 class Proposed(NamedTuple):
-    """A proposal: how many of each kind it has, in how many ways these can be chosen, and the share of the orders in which
-    one such set is proposed."""
+    """How many of each kind it has, in how many ways these can be chosen, and in what share of the orders one is proposed."""
 
     counts: Counts
     ways: int

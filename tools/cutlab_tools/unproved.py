@@ -1,5 +1,4 @@
-"""The program as it stands, built unproved: by `rt try`, which builds what it runs, with checks of its own, and then
-removes it."""
+"""The program as it stands, built unproved: by `rt try`, which builds with checks of its own what it runs and removes."""
 import os
 import shutil
 import socket
@@ -43,8 +42,7 @@ def end(trial: subprocess.Popen[bytes], last: float) -> None:
 
 
 def build_unproved(root: Path, program: Path) -> None:
-    """Builds the program of a copy of the repository into a file: what is built is run as a server, and the file that
-    this server runs from is copied."""
+    """Builds the program of a copy of the repository into a file: it is run as a server, whose file is copied."""
     with tempfile.TemporaryDirectory() as folder, Path(folder, "log").open("w+", errors="replace") as log:
         path, last = Path(folder, "socket"), time.monotonic() + BUILD_SECONDS
         serve = ["serve", str(path), "--workers", "1", "--sessions", "1", "--studies", "1"]

@@ -1,9 +1,8 @@
 """bench/compare [PROGRAM] [PLAN..]: the program beside plain Rust without proofs.
 
-`bench/peer/peer.rs` is the table as it would be written without proofs: each receiver's deliveries sorted and replayed. It
-is built with rustc into a new folder, each plan (those of bench/plans by default) is run three times by each program with one
-worker, and the best seconds of a processor are printed, with their ratio and whether the tables are the same bytes.
-"""
+bench/peer/peer.rs, the table as it would be written without proofs, is built with rustc into a new folder. Each plan (those of
+bench/plans by default) is run three times by each program with one worker, and the best seconds of a processor are printed, with
+their ratio and whether the tables are the same bytes."""
 import sys
 import tempfile
 from pathlib import Path

@@ -1,8 +1,7 @@
 """What all campaigns have in common: options, seeds, counts, the report of a difference, and cases that are kept.
 
 A case is drawn from the name of its campaign, a seed and its own number, so that these three say which case it is. One that
-differs is kept in tests/data/regressions, and tried by ./check before all others from then on.
-"""
+differs is kept in tests/data/regressions, and tried by ./check before all others from then on."""
 import argparse
 import importlib
 import inspect

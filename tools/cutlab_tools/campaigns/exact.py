@@ -92,8 +92,7 @@ class Exact(Campaign):
         self.expect(f"orders in conflict, silent and with an extra of {small.shown()}", small.counts(), found)
 
     def check_column(self, plan: Plan, line: Line, name: str, shares: list[Fraction]) -> float | None:
-        """A column of a line beside its exact shares by trials: its distance in standard deviations, where that says
-        something."""
+        """A column of a line beside its exact shares by trials: its distance in standard deviations, if that says much."""
         receivers, found = plan["nodes"] - line.f, getattr(line, name)
         mean = sum(receivers * share for share in shares)
         variance = float(sum(receivers * share * (1 - share) for share in shares))

@@ -1,6 +1,5 @@
-"""Laws of cut_laws on the program's own tables, of drawn plans that may be too large for the reference: what the
-numbers of each line say of each other, and those of two plans that differ in H alone, in L alone, or in implicit
-alerts alone."""
+"""Laws of cut_laws on the program's own tables, of drawn plans that may be too large for the reference: what the numbers of each
+line say of each other, and those of two plans that differ in H alone, in L alone, or in implicit alerts alone."""
 import json
 import random
 from types import SimpleNamespace as Line

@@ -190,8 +190,7 @@ class Session:
 class Texts(Campaign):
     """Mutated texts of plans, by bytes, tokens, numbers, nesting and UTF-8: what the program makes of each beside the
     reference, which leaves to Python's own reader what JSON is. The program is started for each text, or with --session all
-    of them are sent to one server: it has room for one study, which it is sent first, and so runs none of the others.
-    """
+    of them are sent to one server: it has room for one study, which it is sent first, and runs none of the others."""
 
     options = {"session": dict(action="store_true", help="sends the texts to one server")}
     session: Session | None = None

@@ -4,8 +4,7 @@ Those of tests/data/wrong_bodies.json are changes of a line, one in each part of
 to see it. An edit that must fail, crates/NAME/must-fail/*.edit, is named instead, or with --all each of them is taken: then
 the campaigns are run, the shortest first, until one reports a difference or the time is over. A change is applied to a copy
 of the repository, whose program is built unproved in about a minute. A line for each says what was seen, and the last line
-counts them; the status is 1 where one of the list was not seen. With --minutes they are begun until this many have passed.
-"""
+counts them; the status is 1 where one of the list was not seen. With --minutes they are begun until this many have passed."""
 from __future__ import annotations
 
 import contextlib

@@ -1,8 +1,7 @@
 """Documents that are made of the sources or of what the program prints, and their checks.
 
 The module of a document has `made`, if the document is made: its texts by the files that they stand in. It may have
-`differences`, which gives a line for each thing that differs, and `summary`, which says what was found right.
-"""
+`differences`, which gives a line for each thing that differs, and `summary`, which says what was found right."""
 from pathlib import Path
 from types import ModuleType
 

@@ -3,8 +3,7 @@
 - The list of docs/FORMATS.md has its numbers, names and order, and the exit status where a command can end with the fault.
 - The crates' faults, each of which stands for one of the list, stand for that of the same name, but for those of `RENAMED`;
   and each of the list stands for some fault of a crate.
-
-It prints what differs, and ends with 1 where something does."""
+What differs is printed, and the status is then 1."""
 import re
 from itertools import zip_longest
 from typing import Iterator

@@ -4,8 +4,7 @@ draws nothing, and says what differs.
 crates.txt has the layers, a heading for each, from the bottom to the top, and what each crate stands on. What a crate is for is
 the first sentence of its README. Laws and tests stand beside the layers that are drawn. An arrow goes from a layer to each one
 that it stands on, but for those that it reaches over another. A crate that stands on one of a layer above its own is refused, and
-so is one that docs/ARCHITECTURE.md has under another layer.
-"""
+so is one that docs/ARCHITECTURE.md has under another layer."""
 import html
 import re
 import textwrap

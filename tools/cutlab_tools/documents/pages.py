@@ -3,8 +3,7 @@ each prints with what the page shows after it: docs/try [PROGRAM]
 
 A command is a line of an indented block that begins with "$ "; lines that are indented by ten places or more go on with
 it. The lines up to the next command are what it prints; a line "..." stands for any lines. A command that calls a tool
-which is not installed is skipped, and said so. What differs is printed, and the status is then 1.
-"""
+which is not installed is skipped, and said so. What differs is printed, and the status is then 1."""
 import re
 import shlex
 import shutil

@@ -1,6 +1,5 @@
-"""docs/refuses [PROGRAM]: shows that the checks of documents refuse what is not that of the sources or of the program. It makes
-each change of tests/data/refuses.json in what they read, and expects a refusal. It prints what was accepted, and ends with 1
-where something was."""
+"""docs/refuses [PROGRAM]: shows that the checks of documents refuse what is not that of the sources or of the program: each change
+of tests/data/refuses.json in what they read. It prints what was accepted, and ends with 1 where something was."""
 import importlib
 import json
 from typing import Any, Iterator

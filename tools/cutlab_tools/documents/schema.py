@@ -1,6 +1,5 @@
-"""Checks docs/plan.schema.json: that the plans of the repository are of it, and that its fields are those that the program
-explains, with the same kinds and ranges, which `cutlab check` keeps: docs/schema [PROGRAM]. It prints what differs, and
-ends with 1 where something does."""
+"""Checks docs/plan.schema.json: docs/schema [PROGRAM]. The plans of the repository are of it, and its fields are those that the
+program explains, with the same kinds and ranges, which `cutlab check` keeps. What differs is printed, and the status is then 1."""
 import json
 import re
 from typing import Any, Callable, Iterator

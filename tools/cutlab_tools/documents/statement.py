@@ -9,8 +9,7 @@ word, in the order of docs/statement/skeleton.md, which is prose with lines of t
     {{needs COMMAND MODULE:NAME..}}   how many of them a command needs, whose end these definitions say
 
 With --check it writes nothing, and fails where the page isn't that. It fails where the theorem cites a definition of a folder
-specs/inside: these say how a crate keeps its values, and are for its own clauses and proofs.
-"""
+specs/inside: these say how a crate keeps its values, and are for its own clauses and proofs."""
 import re
 from typing import Iterable, Iterator, NamedTuple
 

@@ -2,8 +2,7 @@
 shows, and says of each picture whether the stored one is as it is drawn now: docs/studies/make [--write] [PROGRAM]
 
 With --write the pictures that are drawn are stored in docs/studies. What differs is printed, and the status is then 1. The
-pictures need gnuplot; by another version of it they are drawn in other bytes.
-"""
+pictures need gnuplot; by another version of it they are drawn in other bytes."""
 import shutil
 import tempfile
 import time

@@ -1,5 +1,4 @@
-"""What the tests of the built program have in common. A test of unittest has many cases, each of which is compared in a
-subtest, so that one that differs hides no other."""
+"""Tests of a built program: each has many cases, which are compared in subtests, so that one that differs hides no other."""
 import tempfile
 import unittest
 from pathlib import Path

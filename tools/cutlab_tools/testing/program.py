@@ -1,5 +1,4 @@
-"""tests/program [PROGRAM] [-k NAME]: what a built program does with its words, its files and its streams. Each difference
-is printed; the last line says how many there are."""
+"""tests/program [PROGRAM] [-k NAME]: what a built program does with its words, files and streams. Each difference is printed."""
 import contextlib
 import hashlib
 import json
@@ -94,8 +93,7 @@ class Studies(ProgramCases):
                     self.ends(f"run {words}", f"{header}{row}\n", text)
 
     def test_large_studies(self) -> None:
-        """The tables of 65 cells, one more than a word has bits, in which no process fails, from results and from slips; and
-        of 1,999 processes on 31 rings, of which one crashes, each alert in four copies."""
+        """65 cells, one more than a word has bits, from results and from slips; and 1,999 processes on 31 rings."""
         cells = plan_with(f=[0], h=list(range(20, 25)), k=[32], l=list(range(1, 14)), repeats=1)
         rows = "".join(f"32,{h},{l},0,1,5,0,5,0,0,0,0,0\n" for h in range(20, 25) for l in range(1, 14))
         for _ in range(2):
@@ -160,8 +158,7 @@ class Checkpoints(ProgramCases):
             self.ends(f"status {path}", refused("20 Disk"), b"")
 
     def test_resumed(self) -> None:
-        """Studies that go on from files with more slips than a word has bits, and from a slip that could be true and is
-        not."""
+        """Studies that go on from files with more slips than a word has bits, and from a false slip that could be true."""
         many, line = plan_with(repeats=130), "run --piece 1 --checkpoint many.cut"
         table, start = f"{HEADER}1,1,1,1,130,520,0,0,0,520,130,130,0\n", 45 + len(plan_with(repeats=130))
         self.ends(line, table, many)
@@ -320,8 +317,7 @@ class Machines(ProgramCases):
         self.ends("run --checkpoint joined1000.cut", f"{HEADER}1,1,1,1,1000,4000,0,0,0,4000,1000,1000,0\n", many)
 
     def test_resumed_share(self) -> None:
-        """The progress of a share that goes on from one of its two blocks: all lines are of four trials, of which two are held
-        at first and all at the end."""
+        """The progress of a share of four trials that goes on from one of its two blocks."""
         plan, row = plan_with(repeats=8), "share 1/2 --piece 2 --workers 3 share.cut"
         self.ends(row, "share 1 of 2: 4 of 4\n", plan)
         whole, start = self.file("share.cut").read_bytes(), 45 + len(plan)
@@ -413,8 +409,7 @@ class Servers(ProgramCases):
         self.expect("a server of two clients", Ended("accepted 3\n"), end_of(server))
 
     def test_guests(self) -> None:
-        """A client that leaves without an answer; and one that holds the only connection, at a socket that is its owner's
-        alone, so that who comes later is refused."""
+        """A client that leaves without an answer, and one that holds the only connection, so that a later one is refused."""
         server = self.served()
         with connect(self.file("socket")) as wire:
             wire.sendall(reference.frame("R", PLAN))

@@ -1,5 +1,4 @@
-"""tests/vectors [PROGRAM] [-k NAME]: gives the values of tests/data, which were computed elsewhere, to a built program.
-Each difference is printed; the last line says how many there are."""
+"""tests/vectors [PROGRAM] [-k NAME]: the values of tests/data, which were computed elsewhere, beside those of a built program."""
 import contextlib
 import json
 import re
