@@ -12,7 +12,7 @@ import time
 from pathlib import Path
 from typing import Iterable
 
-from .arguments import parser
+from .commands import parser
 from .paths import PROGRAM, ROOT, copy, require
 
 PARTS = ("src", "specs", "proofs", "data", "args", "stdin", "stdout", "status")

@@ -18,7 +18,7 @@ from functools import partial
 from pathlib import Path
 from typing import Callable, NamedTuple
 
-from .arguments import parser
+from .commands import parser
 from .documents.pages import Command, try_pages
 from .paths import ROOT, copy, require, tracked_files
 from .unproved import NotBuilt, build_unproved

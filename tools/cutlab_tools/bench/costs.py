@@ -19,7 +19,7 @@ import time
 from pathlib import Path
 from typing import Iterator, NamedTuple
 
-from ..arguments import parser
+from ..commands import parser
 from ..paths import ROOT, reference
 from ..plans import Plan, trials_of
 

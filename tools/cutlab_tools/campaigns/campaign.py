@@ -15,7 +15,7 @@ import time
 from pathlib import Path
 from typing import Any, ClassVar
 
-from ..arguments import parser
+from ..commands import parser
 from ..paths import DATA, ROOT
 from ..program import Ended, Program, Word
 

@@ -3,7 +3,7 @@ its campaign no longer draws it, as it compares something else, that is said too
 import json
 from pathlib import Path
 
-from ..arguments import parser
+from ..commands import parser
 from .campaign import FAILURES, REGRESSIONS, campaign_of
 
 

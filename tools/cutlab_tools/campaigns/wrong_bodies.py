@@ -19,7 +19,7 @@ from concurrent.futures import ThreadPoolExecutor
 from pathlib import Path
 from typing import NamedTuple, Sequence
 
-from ..arguments import parser
+from ..commands import parser
 from ..paths import DATA, ROOT, copy_repository, require
 from ..unproved import NotBuilt, NotServed, build_unproved
 

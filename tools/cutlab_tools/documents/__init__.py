@@ -5,7 +5,7 @@ The module of a document has `made`, if the document is made: its texts by the f
 from pathlib import Path
 from types import ModuleType
 
-from ..arguments import parser
+from ..commands import parser
 from ..paths import PROGRAM, ROOT
 from ..repository import Repository
 

@@ -12,7 +12,7 @@ import tempfile
 from pathlib import Path
 from typing import Callable, NamedTuple
 
-from ..arguments import parser
+from ..commands import parser
 from ..paths import PAGES, ROOT, copy_repository
 
 # Tools that a reader may lack: a command that calls one is run where it is there.

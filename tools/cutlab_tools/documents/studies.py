@@ -8,7 +8,7 @@ import tempfile
 import time
 from pathlib import Path
 
-from ..arguments import parser
+from ..commands import parser
 from ..paths import ROOT, copy_repository
 from .pages import commands, try_commands
 

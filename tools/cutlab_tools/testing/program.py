@@ -15,7 +15,7 @@ from typing import Any, Sequence
 from ..paths import DATA, ROOT, reference
 from ..plans import SMALLEST, Plan, upgrade
 from ..program import Child, Ended, Program, Word, connect, end_of
-from .cases import Cases
+from . import Cases
 
 # Tables that were worked out by hand, command lines with a mistake, and names of files as a line quotes them.
 TABLES: dict[str, list[Any]] = json.loads((DATA / "program.json").read_text())

@@ -9,7 +9,7 @@ from typing import Any
 from ..paths import DATA
 from ..plans import trials_in
 from ..program import Ended, end_of, replies_to, send
-from .cases import Cases
+from . import Cases
 
 # The numbers of the faults of a checkpoint that is refused.
 READINGS = {"NoStudy": 22, "OtherPlan": 23, "Damaged": 24}
