@@ -8,7 +8,7 @@ from functools import reduce
 from typing import Any, NamedTuple, Optional, Sequence
 
 from .paths import DATA, reference
-from .plans import Plan, text_of
+from .plans import Plan, text_of, trials_of
 
 # What is put into texts and plans: values of fields, and pieces of JSON in Latin-1, where "A * 3" stands for "AAA".
 MISTAKES: dict[str, list[Any]] = json.loads((DATA / "mistakes.json").read_text())
@@ -24,22 +24,19 @@ TOKENS, NUMBERS = ([bytes_of(piece) for piece in MISTAKES[name]] for name in ("t
 
 
 def spoil(rng: random.Random, plan: Plan) -> None:
-    field = rng.choice(sorted(plan))
-    way = rng.randrange(5)
+    field, way = rng.choice(sorted(plan)), rng.randrange(5)
     if way == 0:
         del plan[field]
         return
     if way == 1:
         field = rng.choice(["x", "faults", "deaf", "Nodes", "", "version "])
-    before = plan[field] if way == 2 and isinstance(plan[field], list) else None
     value = rng.choice(MISTAKES["values"])
-    plan[field] = value if before is None else [*before, value]
+    plan[field] = [*plan[field], value] if way == 2 and isinstance(plan[field], list) else value
 
 
 def mutated(rng: random.Random, text: bytes) -> bytes:
     """A text with one change: of a byte, a token, a number, or its nesting."""
-    at = rng.randrange(len(text) + 1)
-    way = rng.randrange(6)
+    at, way = rng.randrange(len(text) + 1), rng.randrange(6)
     if way == 0:
         return text[:at] + bytes([rng.randrange(256)]) + text[at + 1 :]
     if way == 1:
@@ -59,18 +56,16 @@ def drawn_slips(rng: random.Random, plan: Plan) -> list[reference.Slip]:
     """Some pieces of a plan's trials in a drawn order, with true sums or false ones."""
     slips: list[reference.Slip] = []
     layout, repeats = reference.layout_of(plan), plan["repeats"]
-    for cell in range(len(reference.cells(plan))):
-        first = cell * repeats
-        while first < (cell + 1) * repeats:
-            count = rng.randint(1, (cell + 1) * repeats - first)
-            if rng.random() < 0.6:
-                slips.append((first, count, reference.piece_sums(plan, layout, first, count)))
-            first += count
+    first = 0
+    while first < trials_of(plan):
+        count = rng.randint(1, repeats - first % repeats)
+        if rng.random() < 0.6:
+            slips.append((first, count, reference.piece_sums(plan, layout, first, count)))
+        first += count
     rng.shuffle(slips)
     if slips and rng.random() < 0.4:
         at = rng.randrange(len(slips))
-        first, count, sums = slips[at]
-        name = rng.choice(reference.SUMS)
+        (first, count, sums), name = slips[at], rng.choice(reference.SUMS)
         slips[at] = first, count, {**sums, name: max(0, sums[name] + rng.choice([-1, 1, 7, 1000, 2**40]))}
     if slips and rng.random() < 0.2:
         slips.insert(rng.randrange(len(slips) + 1), rng.choice(slips))

@@ -16,25 +16,11 @@ from cutlab_study.shares import Rule
 from cutlab_study.tables import Line, table_of
 
 from ..paths import reference
-from ..plans import Plan, drawn_plan, text_of
+from ..plans import Plan, drawn_plan, drawn_seed, text_of
 from .campaign import Campaign
 
 MOST_ALERTS, MOST_STEPS, RARE, LEAST_VARIANCE = 7, 3 * 10**8, 1e-7, 5.0
 COLUMNS = ("conflicts", "silent", "extra")
-
-
-class DrawnRoles(reference.Roles):
-    """Roles that are drawn here, in the form in which the reference has them."""
-
-    def __init__(self, rng: random.Random, nodes: int, layout: reference.Layout) -> None:
-        order = rng.sample(range(nodes), nodes)
-        failed = rng.randint(0, min(3, nodes - 1))
-        deaf, liars = rng.randint(0, failed), rng.choice([0, 0, 1])
-        self.targets, rest = order[:failed], order[failed + liars :]
-        self.crashed, self.deaf = set(order[: failed - deaf]), set(order[failed - deaf : failed])
-        self.liars = set(order[failed : failed + liars])
-        self.links = {(end, layout.subject(0, end)) for end in rest[: rng.choice([0, 0, 1])]}
-        self.speak = rng.random() < 0.5
 
 
 class SmallWorld:
@@ -43,10 +29,16 @@ class SmallWorld:
     def __init__(self, rng: random.Random) -> None:
         while True:
             nodes, k = rng.randint(3, 7), rng.randint(1, 4)
+            failed, low = rng.randint(0, min(3, nodes - 1)), rng.randint(1, k)
+            self.plan: Plan = {"nodes": nodes, "implicit": rng.random() < 0.6, "dead": rng.choice(["silent", "speak"])}
+            self.plan |= {
+                "deaf": rng.randint(0, failed),
+                "liars": rng.choice([0, 0, 1]),
+                "links": rng.choice([0, 0, 1]),
+            }
+            self.plan |= {"seed": drawn_seed(rng), "version": 2}
             self.layout = reference.Layout([rng.sample(range(nodes), nodes) for _ in range(k)])
-            self.roles = DrawnRoles(rng, nodes, self.layout)
-            low = rng.randint(1, k)
-            self.plan: Plan = {"nodes": nodes, "implicit": rng.random() < 0.6}
+            self.roles = reference.Roles(self.plan, failed, reference.Source(self.plan, 0), self.layout)
             self.edges = reference.alert_list(self.plan, self.layout, self.roles, k)
             if len(self.edges) <= MOST_ALERTS:
                 self.cell = (k, rng.randint(low, k), low, len(self.roles.targets))
@@ -86,9 +78,8 @@ class Exact(Campaign):
 
     def check_orders(self, small: SmallWorld) -> None:
         world = exact.world_of(small.plan, small.layout, small.roles, small.cell)
-        columns = exact.columns_of(world, Rule(small.cell[1], small.cell[2]), 1, 1)
-        orders = math.factorial(len(small.edges))
-        found = [getattr(columns, name) * orders for name in COLUMNS]
+        columns = exact.columns_of(world, Rule(*small.cell[1:3]), 1, 1)
+        found = [getattr(columns, name) * math.factorial(len(small.edges)) for name in COLUMNS]
         self.expect(f"orders in conflict, silent and with an extra of {small.shown()}", small.counts(), found)
 
     def check_column(self, plan: Plan, line: Line, name: str, shares: list[Fraction]) -> float | None:

@@ -36,11 +36,10 @@ class Checkpoints(Campaign):
         self.expect(f"{text.decode()} over {held.hex()}", wanted(plan, held), found)
         if found.status:
             self.expect("the file that a refused run leaves", held, path.read_bytes())
-            return
-        # The file that a run leaves has each trial once, and gives the same table.
-        slips = slips_in(plan, path.read_bytes())
-        self.expect("the trials in the file that is left", list(range(trials_of(plan))), trials_in(slips))
-        self.expect("the table over that file", found.output, reference.table_over(plan, slips))
+        else:
+            slips = slips_in(plan, path.read_bytes())
+            self.expect("the trials in the file that is left", list(range(trials_of(plan))), trials_in(slips))
+            self.expect("the table over that file", found.output, reference.table_over(plan, slips))
 
 
 CALL = re.compile(r'(?:\[pid +\d+\] |\d+ +)?(?:fsync|pwrite64)\(3(?:, "((?:\\x[0-9a-f]{2})*)", \d+, (\d+))?')
@@ -127,9 +126,9 @@ class Kills(Campaign):
 def true_slips(rng: random.Random, plan: Plan) -> list[reference.Slip]:
     """A piece of each cell of a plan, in a drawn order, at most twelve of them."""
     layout, repeats, slips = reference.layout_of(plan), plan["repeats"], list[reference.Slip]()
-    for cell in range(len(reference.cells(plan))):
-        first = cell * repeats + rng.randrange(repeats)
-        count = rng.randint(1, (cell + 1) * repeats - first)
+    for last in range(repeats, trials_of(plan) + 1, repeats):
+        first = last - repeats + rng.randrange(repeats)
+        count = rng.randint(1, last - first)
         slips.append((first, count, reference.piece_sums(plan, layout, first, count)))
     rng.shuffle(slips)
     return slips[: rng.randint(0, 12)]
@@ -165,11 +164,9 @@ class Migrations(Campaign):
 
 def blocks_of(plan: Plan, size: int) -> Iterator[range]:
     """The trials of the blocks that the cells are cut into, numbered through all cells."""
-    repeats = plan["repeats"]
-    for cell in range(len(reference.cells(plan))):
-        for first in range(0, repeats, size):
-            start = cell * repeats + first
-            yield range(start, min(start + size, (cell + 1) * repeats))
+    for last in range(plan["repeats"], trials_of(plan) + 1, plan["repeats"]):
+        starts = range(last - plan["repeats"], last, size)
+        yield from (range(start, min(start + size, last)) for start in starts)
 
 
 def runs_of(plan: Plan, trials: set[int]) -> int:
@@ -178,7 +175,7 @@ def runs_of(plan: Plan, trials: set[int]) -> int:
 
 
 def status_of(plan: Plan, trials: set[int]) -> str:
-    """What is printed of a file whose slips are one for each run of these trials."""
+    """What is printed of a file that has a slip for each run of these trials."""
     cells, repeats = len(reference.cells(plan)), plan["repeats"]
     done = sum(trials.issuperset(range(cell * repeats, (cell + 1) * repeats)) for cell in range(cells))
     lines = [f"trials {len(trials)} of {cells * repeats}", f"cells {done} of {cells}", f"slips {runs_of(plan, trials)}"]

@@ -42,8 +42,7 @@ def wanted_replies(sent: bytes) -> Iterator[Message]:
         if kind == "Q":
             return
         if kind == "S":
-            is_there = int.from_bytes(payload, "big") < SLOTS
-            yield ("S", None) if is_there else ("E", (26).to_bytes(2, "big"))
+            yield ("S", None) if int.from_bytes(payload, "big") < SLOTS else ("E", (26).to_bytes(2, "big"))
         elif fault := fault_of(payload):
             yield "E", fault.to_bytes(2, "big")
         else:
@@ -146,15 +145,11 @@ class Restarts(Campaign):
         return found
 
 
-# The fault of a server without room, and how many requests a session answers, less than its 1,000,000.
-NO_ROOM, MOST_REQUESTS = 29, 900_000
-
-
 class Session:
-    """A session with a server that has no room for a study."""
+    """A session with a server that has no room for a study, of less than its 1,000,000 requests."""
 
     def __init__(self, program: Path) -> None:
-        self.left, self.folder = MOST_REQUESTS, tempfile.TemporaryDirectory()
+        self.left, self.folder = 900_000, tempfile.TemporaryDirectory()
         path = Path(self.folder.name, "socket")
         self.server = Program(program).serve(path)
         self.wire = connect(path)
@@ -201,7 +196,7 @@ class Texts(Campaign):
         for _ in range(rng.choice([1, 1, 1, 2, 3])):
             text = mutated(rng, text)
         if self.values["session"] and len(text) <= 65_536:
-            self.expect(repr(text), fault_of(text) or NO_ROOM, self.sent(text))
+            self.expect(repr(text), fault_of(text) or 29, self.sent(text))  # (29: no room for another study)
         else:
             self.expect_run(wanted(text, sizes), "check", text=text, what=repr(text))
 

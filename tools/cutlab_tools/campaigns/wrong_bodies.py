@@ -5,11 +5,10 @@ to see it. An edit that must fail, crates/NAME/must-fail/*.edit, is named instea
 the campaigns are run, the shortest first, until one reports a difference or the time is over. A change is applied to a copy
 of the repository, whose program is built unproved in about a minute. A line for each says what was seen, and the last line
 counts them; the status is 1 where one of the list was not seen. With --minutes they are begun until this many have passed."""
-from __future__ import annotations
-
 import contextlib
 import json
 import os
+import re
 import signal
 import subprocess
 import tempfile
@@ -40,14 +39,6 @@ class WrongBody(NamedTuple):
     changes: Sequence[Sequence[str]]
     campaigns: Sequence[str]
 
-    @staticmethod
-    def read(path: Path) -> WrongBody:
-        """An edit that must fail."""
-        lines = [line.partition(": ") for line in path.read_text().split("\n") if line.strip()]
-        file, old, new = ([text for name, _, text in lines if name == word] for word in ("file", "old", "new"))
-        crate = path.parents[1].relative_to(ROOT)
-        return WrongBody(str(path.relative_to(ROOT)), crate / file[0], list(zip(old, new)), CAMPAIGNS)
-
     def apply(self, place: Path) -> None:
         text = (place / self.file).read_text()
         for old, new in self.changes:
@@ -62,6 +53,13 @@ def listed() -> list[WrongBody]:
     return [WrongBody(it["part"], Path(it["file"]), it["changes"], [it["campaign"]]) for it in rows]
 
 
+def edit_of(path: Path) -> WrongBody:
+    """An edit that must fail."""
+    said = {word: re.findall(f"^{word}: (.*)", path.read_text(), re.M) for word in ("file", "old", "new")}
+    file, name = path.parents[1].relative_to(ROOT) / said["file"][0], str(path.relative_to(ROOT))
+    return WrongBody(name, file, list(zip(said["old"], said["new"])), CAMPAIGNS)
+
+
 def all_edits() -> list[Path]:
     """The edits of all crates, one of each crate in turn."""
     folders = sorted(ROOT.glob("crates/*/must-fail"))
@@ -72,8 +70,7 @@ def all_edits() -> list[Path]:
 def differs(words: str, program: Path, seconds: float) -> bool:
     """Whether a campaign reports a difference in this time. Then it is ended, with all that it started."""
     name, *rest = words.split()
-    command = [str(ROOT / "campaigns" / name), "--forget", "--program", str(program), *rest]
-    quiet = subprocess.DEVNULL
+    command, quiet = [str(ROOT / "campaigns" / name), "--forget", "--program", str(program), *rest], subprocess.DEVNULL
     child = subprocess.Popen(command, stdout=quiet, stderr=quiet, start_new_session=True)
     try:
         return child.wait(timeout=seconds) != 0
@@ -125,7 +122,7 @@ def main() -> int:
     given = words.parse_args()
     require("rt", "wrong_bodies")
     edits = all_edits() if given.all else [it.resolve() for it in given.edits]
-    bodies, counts = [WrongBody.read(it) for it in edits] or listed(), Counter[str]()
+    bodies, counts = [edit_of(it) for it in edits] or listed(), Counter[str]()
     last = time.monotonic() + 60 * given.minutes
     with ThreadPoolExecutor(given.jobs) as pool:
         for body, found in zip(bodies, pool.map(lambda it: attempt(it, given.seconds, last), bodies)):
