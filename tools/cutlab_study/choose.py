@@ -1,4 +1,5 @@
 """The watermarks that do best in a table."""
+from operator import attrgetter
 from typing import Callable, Iterator, NamedTuple
 
 from .plans import Refused
@@ -23,10 +24,8 @@ class Worst(NamedTuple):
     def __str__(self) -> str:
         k, h, l = self.pair
         wrong = f"; in {self.wrong} trials a quorum agreed on a wrong set" if self.wrong else ""
-        return (
-            f"K = {k}, H = {h}, L = {l}: conflicts {self.conflicts} of receivers ({self.ppm} ppm), "
-            f"{shown(self.proposals.share)} of proposals; silent {self.silent}; right {self.right} of trials{wrong}"
-        )
+        conflicts = f"{self.conflicts} of receivers ({self.ppm} ppm), {shown(self.proposals.share)} of proposals"
+        return f"K = {k}, H = {h}, L = {l}: conflicts {conflicts}; silent {self.silent}; right {self.right} of trials{wrong}"
 
 
 class Limits(NamedTuple):
@@ -53,16 +52,12 @@ class Limits(NamedTuple):
 
 
 def worst_of(pair: Pair, lines: list[Line]) -> Worst:
-    proposals = [it.share("proposal") for it in lines if it.receivers > it.silent]
-    return Worst(
-        pair,
-        max(it.ppm for it in lines),
-        max((it.share("conflict") for it in lines), key=lambda it: it.share),
-        max(proposals, key=lambda it: it.share) if proposals else Share(1.0, 0.0, 1.0, 0),
-        max((it.share("silent") for it in lines), key=lambda it: it.share),
-        min((it.share("right") for it in lines), key=lambda it: it.share),
-        sum(it.decided - it.right for it in lines),
-    )
+    by_share = attrgetter("share")
+    conflicts, silent = (max((it.share(name) for it in lines), key=by_share) for name in ("conflict", "silent"))
+    right = min((it.share("right") for it in lines), key=by_share)
+    proposals = [it.share("proposal") for it in lines if it.receivers > it.silent] or [Share(1.0, 0.0, 1.0, 0)]
+    ppm, wrong = max(it.ppm for it in lines), sum(it.decided - it.right for it in lines)
+    return Worst(pair, ppm, conflicts, max(proposals, key=by_share), silent, right, wrong)
 
 
 # What the pairs are sorted by: the first is best.

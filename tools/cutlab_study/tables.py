@@ -75,13 +75,12 @@ class Line(NamedTuple):
     def share(self, what: str) -> Share:
         """A share: of all receivers, each of which has an order of its own, or of trials. Those of a trial share who fails
         and who observes whom, so that for silence a trial is one try."""
-        receivers, trials = self.receivers, self.trials
-        counted: dict[str, tuple[int, int, int]] = {
-            "conflict": (self.conflicts, receivers, receivers),
-            "proposal": (self.conflicts, receivers - self.silent, receivers - self.silent),
-            "silent": (self.silent, receivers, trials),
-            "decided": (self.decided, trials, trials),
-            "right": (self.right, trials, trials),
+        counted = {
+            "conflict": (self.conflicts, self.receivers),
+            "proposal": (self.conflicts, self.receivers - self.silent),
+            "silent": (self.silent, self.receivers, self.trials),
+            "decided": (self.decided, self.trials),
+            "right": (self.right, self.trials),
         }
         return share_of(*counted[what])
 
@@ -123,7 +122,7 @@ def read_table(path: str) -> Table:
 
 
 def check_fits(plan: Plan, table: Table) -> None:
-    """That a table is one of a plan, as far as its cells and their trials say it."""
+    """That a table may be one of a plan."""
     if [it.cell for it in table.lines] != cells(plan):
         raise Refused(f"{table.name}: its cells are not those of the plan, in their order; was the run cut short?")
     for it in table.lines:
@@ -132,7 +131,6 @@ def check_fits(plan: Plan, table: Table) -> None:
 
 
 def csv_of(lines: list[Line]) -> str:
-    """Lines as the program prints a table."""
     names = ["k", "h", "l", "f", *(it for it in COUNTS if getattr(lines[0], it) is not None), "ppm"]
     rows = [",".join(str(getattr(it, name)) for name in names) for it in lines]
     return "\n".join([",".join(names), *rows]) + "\n"

@@ -25,10 +25,10 @@ def run(plan: Plan, workers: int | None) -> str:
     if not shutil.which("cutlab"):
         raise Refused("cutlab is not on the PATH")
     words = ["--workers", str(workers)] if workers else []
-    output, errors, status = CUTLAB.run("run", *words, text=text_of(plan), limit=None)
-    if status:
-        raise Refused(errors.rstrip("\n"))
-    return output
+    done = CUTLAB.run("run", *words, text=text_of(plan), limit=None)
+    if done.status:
+        raise Refused(done.errors.rstrip("\n"))
+    return done.output
 
 
 def vary(plan: Plan, field: str, values: list[str], workers: int | None) -> Iterator[str]:
@@ -39,10 +39,8 @@ def vary(plan: Plan, field: str, values: list[str], workers: int | None) -> Iter
     name = f"{field}_set" if field in LISTS else field
     for number, (text, its) in enumerate(zip(values, plans)):
         header, *lines = run(its, workers).splitlines()
-        if number == 0:
-            yield f"{name},{header}"
-        for line in lines:
-            yield f"{text.replace(',', ' ')},{line}"
+        yield from [f"{name},{header}"] if number == 0 else []
+        yield from (f"{text.replace(',', ' ')},{line}" for line in lines)
 
 
 def differ(one: Share, other: Share) -> bool:
