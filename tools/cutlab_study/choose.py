@@ -67,9 +67,9 @@ ORDERS: dict[str, Callable[[Worst], tuple[float, ...]]] = {
     "silent": lambda it: (it.silent.share, it.proposals.share, -it.right.share),
 }
 NARROW = (
-    "  H = K: one lost alert, or one observer that raises none, stops every proposal. This model loses no alert, so no number "
-    "here shows it. Take at most H = K - 1."
+    "  H = K: one lost alert, or one observer that raises none, stops every proposal. This model loses no alert, so no "
 )
+NARROW += "number here shows it. Take at most H = K - 1."
 
 
 def said_of(it: Worst) -> list[str]:

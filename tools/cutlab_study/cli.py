@@ -19,10 +19,8 @@ Words = argparse.Namespace
 Word = tuple[tuple[str, ...], dict[str, Any]]
 Does = Callable[[Words], Iterable[str]]
 COMMANDS: list[tuple[Does, tuple[Word, ...]]] = []
-PREMISE = (
-    "# Shares where every order of the alerts at a receiver is equally likely, and every alert arrives. That ChaCha8's draws "
-    "behave so is what a comparison shows, and no proof says."
-)
+PREMISE = "# Shares where every order of the alerts at a receiver is equally likely, and every alert arrives. "
+PREMISE += "That ChaCha8's draws behave so is what a comparison shows, and no proof says."
 
 
 def word(*names: str, about: str | None = None, **how: Any) -> Word:
@@ -61,11 +59,11 @@ def parts(text: str, option: str, why: str) -> tuple[str, str]:
 
 
 def exact_line(it: CellColumns) -> str:
-    cell, columns = ",".join(map(str, it.cell)), it.columns
-    if columns is None:
+    cell = ",".join(map(str, it.cell))
+    if it.columns is None:
         return f"# {cell} left out: {it.why}"
-    shares = [float(share) for share in (columns.conflicts, columns.silent, columns.extra)]
-    return ",".join([cell, *(f"{it:.6g}" for it in (*shares, columns.decided, columns.right)), str(it.trials)])
+    shares: Iterable[Any] = it.columns
+    return ",".join([cell, *(f"{float(share):.6g}" for share in shares), str(it.trials)])
 
 
 @command(

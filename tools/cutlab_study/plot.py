@@ -28,13 +28,10 @@ def logarithmic(low: str, foot: str, *marks: str) -> str:
 
 def points(places: Iterable[tuple[int, list[int]]], part: str, foot: float) -> Points:
     """Of places with their sums: conflicts of those that proposed, not below the foot of a scale, or silent ones of all."""
-    found: Points = []
-    for at, (receivers, silent, conflicts) in places:
-        if part == "silent":
-            found.append((at, 100 * silent / receivers))
-        elif receivers > silent:
-            found.append((at, max(100 * conflicts / (receivers - silent), foot)))
-    return found
+    if part == "silent":
+        return [(at, 100 * silent / receivers) for at, (receivers, silent, _) in places]
+    proposed = [(at, receivers - silent, conflicts) for at, (receivers, silent, conflicts) in places]
+    return [(at, max(100 * conflicts / count, foot)) for at, count, conflicts in proposed if count]
 
 
 def curves(lines: Mapping[str, Points], is_dashed: bool) -> list[str]:

@@ -14,10 +14,8 @@ from .tables import Line, Table, check_fits, shown
 WIDE, HIGH, LEFT, TOP = 172, 104, 64, 34
 # The rarest share that has a shade of its own; the lightest and the darkest shade, as red, green and blue.
 RAREST, LIGHT, DARK = 1e-6, (255, 247, 230), (150, 20, 20)
-PREMISE = (
-    "The exact share holds where every order of the alerts at a receiver is equally likely. That the draws behave so is what "
-    "the comparison shows; no proof says it."
-)
+PREMISE = "The exact share holds where every order of the alerts at a receiver is equally likely. "
+PREMISE += "That the draws behave so is what the comparison shows; no proof says it."
 
 
 def colour(share: float) -> tuple[str, str]:
@@ -47,11 +45,11 @@ def field(it: Line, x: int, y: int, known: Fraction | None, is_chosen: bool) -> 
     rows = [f"conflicts {shown(conflicts.share)}", conflicts.bounds]
     rows += [] if known is None else [f"exact {shown(float(known))}"]
     rows += [f"{name} {shown(its.share)} {its.bounds}" for name, its in (("silent", silent), ("right", right))]
-    kinds = [f' class="{ink} {"small" if at else ""}"' for at in range(len(rows))]
-    texts = [text(x + 6, y + 20 + 18 * at, row, kind) for at, (row, kind) in enumerate(zip(rows, kinds))]
-    mark = [rect(x + 2, y + 2, WIDE - 4, HIGH - 4, 'class="chosen"')] if is_chosen else []
     title = f"H = {it.h}, L = {it.l}: {it.conflicts} conflicts of {it.receivers} receivers, {it.ppm} ppm"
-    parts = [f"<title>{title}</title>", rect(x, y, WIDE, HIGH, f'fill="{shade}"'), *texts, *mark]
+    parts = [f"<title>{title}</title>", rect(x, y, WIDE, HIGH, f'fill="{shade}"')]
+    for at, row in enumerate(rows):
+        parts.append(text(x + 6, y + 20 + 18 * at, row, f' class="{ink} {"small" if at else ""}"'))
+    parts += [rect(x + 2, y + 2, WIDE - 4, HIGH - 4, 'class="chosen"')] if is_chosen else []
     return f"<g>{''.join(parts)}</g>"
 
 
@@ -76,7 +74,6 @@ def scale() -> str:
 
 
 def row(it: Line) -> str:
-    """A line of the table, for who reads no pictures."""
     cells = [*it.cell, *(it.share(name) for name in ("conflict", "silent", "right")), it.decided - it.right]
     return f"<tr>{''.join(f'<td>{escape(str(cell))}</td>' for cell in cells)}</tr>"
 

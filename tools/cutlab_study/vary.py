@@ -21,7 +21,6 @@ def value_of(field: str, text: str) -> Any:
 
 
 def run(plan: Plan, workers: int | None) -> str:
-    """The table of a plan, by the program on the PATH."""
     if not shutil.which("cutlab"):
         raise Refused("cutlab is not on the PATH")
     words = ["--workers", str(workers)] if workers else []

@@ -108,7 +108,6 @@ def pages(program: Path) -> Result:
 
 
 def timed(run: Part) -> Result:
-    """What a part found, with its seconds."""
     begun = time.monotonic()
     try:
         found = run()

@@ -35,7 +35,6 @@ def spoil(rng: random.Random, plan: Plan) -> None:
 
 
 def mutated(rng: random.Random, text: bytes) -> bytes:
-    """A text with one change: of a byte, a token, a number, or its nesting."""
     at, way = rng.randrange(len(text) + 1), rng.randrange(6)
     if way == 0:
         return text[:at] + bytes([rng.randrange(256)]) + text[at + 1 :]
@@ -73,7 +72,6 @@ def drawn_slips(rng: random.Random, plan: Plan) -> list[reference.Slip]:
 
 
 def drawn_file(rng: random.Random, plan: Plan, slips: list[reference.Slip]) -> bytes:
-    """The file of these slips, whole or torn, changed, longer, of another plan, or something else."""
     held = reference.file_of(plan, slips)
     way = rng.randrange(8)
     if way == 0:

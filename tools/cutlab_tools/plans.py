@@ -13,7 +13,6 @@ SMALLEST |= dict(links=0, nodes=2, repeats=1, seed="0" * 64, version=1)
 
 
 def text_of(plan: Plan) -> bytes:
-    """A plan's text as Python writes it."""
     return json.dumps(plan).encode()
 
 
@@ -60,7 +59,6 @@ def drawn_words(rng: random.Random, workers: int, piece: int) -> list[str]:
 
 
 def work_of(plan: Plan) -> int:
-    """About how many steps the reference takes for a plan."""
     others = plan["liars"] + plan["links"]
     each = sum(k * (2 * f + others) * (1 + f + plan["liars"]) for k, _, _, f in reference.cells(plan))
     return int(plan["repeats"] * plan["nodes"] * plan["copies"] * each)
@@ -71,12 +69,10 @@ def trials_of(plan: Plan) -> int:
 
 
 def trials_in(slips: Iterable[Sequence[Any]]) -> list[int]:
-    """The trials of slips, each of which begins with its first trial and how many it has."""
     return sorted(trial for first, count, *_ in slips for trial in range(first, first + count))
 
 
 def slips_in(plan: Plan, held: bytes) -> list[reference.Slip]:
-    """The slips that a file holds for a plan, if they may be true."""
     return list(reference.checked_slips(plan, reference.slips_of(plan, held)))
 
 
@@ -96,7 +92,6 @@ def fault_of(text: bytes) -> int | None:
 
 
 def sizes(plan: Plan) -> str:
-    """What a check prints of a plan."""
     return f"cells {len(reference.cells(plan))}\ntrials {trials_of(plan)}\nquorum {reference.quorum(plan['nodes'])}\n"
 
 

@@ -23,7 +23,6 @@ class Ended(NamedTuple):
 
 
 def end_of(child: Child[bytes], limit: float = 120) -> Ended:
-    """How a program ends that was started with pipes."""
     output, errors = child.communicate(timeout=limit)
     return Ended(output.decode(), errors.decode(), child.returncode)
 

@@ -80,21 +80,19 @@ def instructions(program: Path, plan: Path) -> int:
 def slower(figures: dict[str, int], found: dict[str, int]) -> Iterator[str]:
     """The plans that take more instructions than their figures say, and those without a figure, a line for each."""
     for name, count in found.items():
-        more = count / figures[name] - 1 if name in figures else 0.0
         if name not in figures:
             yield f"{name}: it has no figure in bench/figures.json: bench/run --write keeps one"
-        if more > TOLERANCE:
+        elif (more := count / figures[name] - 1) > TOLERANCE:
             yield f"{name}: slower by {100 * more:.1f} %: {count} instructions, {figures[name]} in bench/figures.json"
 
 
 def compare(program: Path, is_written: bool) -> int:
-    """Compares the instructions of plans with the figures that are kept, or keeps them."""
     if not shutil.which("valgrind"):
         print("\nvalgrind is not installed, so nothing is compared with bench/figures.json")
         return 0
     figures: dict[str, int] = json.loads(FIGURES.read_text()) if FIGURES.exists() else {}
+    found: dict[str, int] = {}
     print(f"\n{'plan':16}{'instructions':>16}{'figure':>16}")
-    found = {}
     for plan in COUNTED:
         count = found[plan.name] = instructions(program, plan)
         print(f"{plan.name:16}{count:>16}{figures.get(plan.name, 'none'):>16}", flush=True)

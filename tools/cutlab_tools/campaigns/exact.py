@@ -53,7 +53,6 @@ class SmallWorld:
         return None
 
     def counts(self) -> list[int]:
-        """How many orders end in a conflict, in silence and in an extra."""
         targets, found = set(self.roles.targets), map(self.proposed, itertools.permutations(self.edges))
         ends = [(not targets <= it, False, not it <= targets) if it else (False, True, False) for it in found]
         return [sum(its) for its in zip(*ends)]
@@ -92,7 +91,6 @@ class Exact(Campaign):
         return float(found - mean) / math.sqrt(variance) if variance >= LEAST_VARIANCE else None
 
     def check_table(self, plan: Plan) -> None:
-        """The program's table of a drawn plan beside the exact shares."""
         layout, distances = reference.layout_of(plan), list[float]()
         for number, line in enumerate(table_of("table", self.table_of(text_of(plan)).encode()).lines):
             columns = trial_columns(plan, layout, number, line)

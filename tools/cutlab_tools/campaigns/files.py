@@ -113,7 +113,6 @@ class Kills(Campaign):
         slips_in(plan, (self.folder / "study.cut").read_bytes())
 
     def run_to_end(self, rng: random.Random, command: list[str], text: bytes, answer: str, longest: float) -> None:
-        """Runs a command again and again, each time killed after at most `longest`, until it ends by itself."""
         for _ in range(200):
             words = [*command, *drawn_words(rng, 4, 20)]
             found = self.program.run_killed(*words, text=text, seconds=rng.random() * longest)

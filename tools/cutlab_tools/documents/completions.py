@@ -12,7 +12,6 @@ HELP = Command("help", "Print the help of a command", [], [])
 
 
 def bash(listed: list[Command]) -> dict[str, str]:
-    """What its template takes for bash."""
     valued = {it.name: it for command in listed for it in command.options if it.value}
     reply = 'mapfile -t COMPREPLY < <(compgen {} -- "$current")'.format
     actions = {"is_file": f'{reply("-f")}; ', "is_folder": f'{reply("-d")}; ', "is_valued": ""}
@@ -42,7 +41,6 @@ def zsh_spec(it: Argument) -> str:
 
 
 def zsh(listed: list[Command]) -> dict[str, str]:
-    """What its template takes for zsh."""
     names = "\n".join(f"    '{it.name}:{zsh_text(it.about)}'" for it in [*listed, HELP])
     specs = {it.name: [*map(zsh_spec, it.arguments), "'--help[Print help]'"] for it in listed}
     lines = [" \\\n        ".join([f"    {name})\n      _arguments", *its]) for name, its in specs.items()]

@@ -93,7 +93,6 @@ def band(name: str, crates: list[Crate], top: int) -> tuple[int, list[str]]:
 
 
 def picture(listed: Layers) -> str:
-    """The picture of the layers, the highest first."""
     middle, drawn, y = list[int](), list[str](), 0
     for name, crates in reversed(listed.items()):
         end, parts = band(name, crates, y)

@@ -147,7 +147,6 @@ class Closure:
                 self.visit_paragraph(module, spec, spec.place[head])
 
     def counts(self) -> tuple[int, int]:
-        """How many definitions there are, and how many lines without comments."""
         lines = [line.strip() for text in self.found.values() for line in text.split("\n")]
         return len(self.found), sum(bool(line) and not line.startswith("--") for line in lines)
 
@@ -167,7 +166,6 @@ class Page:
         return found[0].rstrip("\n")
 
     def cite(self, path: str, function: str) -> None:
-        """Adds all that the contract of a function cites."""
         uses = Uses(ghost_uses(self.repository.read(path)))
         for clause in CLAUSE.findall(self.contract(path, function)):
             self.closure.follow(uses, clause)
@@ -191,7 +189,6 @@ class Page:
         return [line for path in paths for line in self.block(path, path, "rust", texts[path])]
 
     def block(self, home: str, path: str, language: str, texts: list[str]) -> list[str]:
-        """What is cited of one file."""
         if not texts:
             raise NotMade(f"the skeleton names {path}, of which nothing is cited")
         self.placed.add(home)

@@ -85,7 +85,6 @@ class Vectors(Cases):
             self.expect(f"the status of {row['file']}", row["printed"], self.printed(row, "status", path.name))
 
     def test_migrations(self) -> None:
-        """What a migration of a file prints, and the file that it leaves."""
         for row in vectors_of("migrations"):
             old, new = self.put("old", row["old"]), self.file("new")
             new.unlink(missing_ok=True)
@@ -106,7 +105,6 @@ class Vectors(Cases):
                 self.expect(f"the trials of {what}", row["trials"], trials_in(pieces))
 
     def test_joins(self) -> None:
-        """What a join of files prints, and the file that it leaves, if it makes one."""
         for row in vectors_of("joins"):
             old = [self.put(f"{number}.cut", held) for number, held in enumerate(row["files"])]
             new = self.file("new.cut")
@@ -116,7 +114,6 @@ class Vectors(Cases):
                 self.expect(f"the file that joins {row['files']}", row["new"], new.read_bytes().hex())
 
     def test_sessions(self) -> None:
-        """What a server of that number of slots replies to a session."""
         for row in vectors_of("sessions"):
             server = self.program.serve(self.file("socket"), studies=row["slots"])
             replies = replies_to(self.file("socket"), bytes.fromhex(row["sent"])).hex()
