@@ -162,10 +162,10 @@ def canonical_text(plan: Plan) -> bytes:
 # ---- rings
 def ring(plan: Plan, number: int) -> list[int]:
     """The processes of a ring in its order."""
-    seed = bytes.fromhex(plan["seed"])
 
     def digest(process: int) -> bytes:
-        return hashlib.sha256(seed + number.to_bytes(4, "big") + process.to_bytes(4, "big")).digest()
+        text = bytes.fromhex(plan["seed"]) + number.to_bytes(4, "big") + process.to_bytes(4, "big")
+        return hashlib.sha256(text).digest()
 
     return sorted(range(plan["nodes"]), key=lambda process: (digest(process), process))
 
@@ -198,7 +198,7 @@ def quarter_round(state: list[int], a: int, b: int, c: int, d: int) -> None:
 
 def block(seed: bytes, stream: int, counter: int) -> list[int]:
     """A block of ChaCha with 8 rounds (RFC 8439), with a counter and a stream number of 64 bits each."""
-    words = [int.from_bytes(bytes_of, "little") for bytes_of in (seed[at : at + 4] for at in range(0, 32, 4))]
+    words = [int.from_bytes(seed[at : at + 4], "little") for at in range(0, 32, 4)]
     places = [half for number in (counter, stream) for half in (number & 0xFFFFFFFF, number >> 32)]
     first = [0x61707865, 0x3320646E, 0x79622D32, 0x6B206574, *words, *places]
     state = list(first)
@@ -255,14 +255,9 @@ class Roles:
 def is_alerted(layout: Layout, roles: Roles, number: int, subject: int) -> bool:
     observer = layout.observer(number, subject)
     up = observer not in roles.crashed
-    return (
-        subject in roles.targets
-        and (up or roles.speak)
-        or observer in roles.deaf
-        or observer in roles.liars
-        or up
-        and ((observer, subject) in roles.links or (subject, observer) in roles.links)
-    )
+    is_failed = subject in roles.targets and (up or roles.speak)
+    is_cut = up and ((observer, subject) in roles.links or (subject, observer) in roles.links)
+    return is_failed or observer in roles.deaf or observer in roles.liars or is_cut
 
 
 def alert_list(plan: Plan, layout: Layout, roles: Roles, k: int) -> list[Edge]:
@@ -306,8 +301,7 @@ def proposal(
     detector = Detector(layout, k, h, l, plan["implicit"])
     for at, edge in enumerate(deliveries(source, receiver, k, edges, plan["copies"]), 1):
         detector.deliver(edge)
-        members = detector.settled()
-        if members is not None:
+        if members := detector.settled():
             return tuple(members), at
     return None
 
@@ -351,14 +345,12 @@ def piece_sums(plan: Plan, layout: Layout, first: int, count: int) -> Sums:
 
 # ---- the table
 def header(plan: Plan) -> str:
-    settled = ["settled"] if plan["version"] == 2 else []
-    return ",".join(["k", "h", "l", "f", "trials", *SUMS[:7], *settled, "ppm"]) + "\n"
+    return ",".join(["k", "h", "l", "f", "trials", *SUMS[: 6 + plan["version"]], "ppm"]) + "\n"
 
 
 def line(plan: Plan, cell: Cell, trials: int, sums: Sums) -> str:
-    settled = [sums["settled"]] if plan["version"] == 2 else []
-    ppm = sums["conflicts"] * 10**6 // sums["receivers"]
-    return ",".join(map(str, [*cell, trials, *(sums[name] for name in SUMS[:7]), *settled, ppm])) + "\n"
+    counted = [sums[name] for name in SUMS[: 6 + plan["version"]]]
+    return ",".join(map(str, [*cell, trials, *counted, sums["conflicts"] * 10**6 // sums["receivers"]])) + "\n"
 
 
 def table(plan: Plan) -> str:

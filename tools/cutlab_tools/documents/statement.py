@@ -11,7 +11,7 @@ word, in the order of docs/statement/skeleton.md, which is prose with lines of t
 With --check it writes nothing, and fails where the page isn't that. It fails where the theorem cites a definition of a folder
 specs/inside: these say how a crate keeps its values, and are for its own clauses and proofs."""
 import re
-from typing import Iterable, Iterator, NamedTuple
+from typing import Iterable, Iterator, NamedTuple, Optional
 
 from ..repository import Repository
 from . import NotMade
@@ -71,8 +71,9 @@ class Uses:
 class Spec:
     """A file of definitions: its paragraphs, each with the names that it defines."""
 
-    def __init__(self, path: str, text: str) -> None:
-        self.path, self.uses = path, Uses(line for line in text.split("\n") if line.startswith("use "))
+    def __init__(self, module: str, path: str, text: str) -> None:
+        self.module, self.path = module, path
+        self.uses = Uses(line for line in text.split("\n") if line.startswith("use "))
         self.paragraphs, self.place = list[str](), dict[str, int]()
         for paragraph in re.split(r"\n\s*\n", text):
             lines = [line for line in paragraph.split("\n") if not line.startswith(("use ", "pub use "))]
@@ -89,17 +90,16 @@ class Closure:
     """What contracts cite, and what that cites in turn."""
 
     def __init__(self, repository: Repository) -> None:
-        self.repository = repository
-        self.specs: dict[str, Spec | None] = {}
-        self.found: dict[tuple[str, int], str] = {}
-        self.types: dict[tuple[str, str], str] = {}
+        self.repository, self.specs = repository, dict[str, Optional[Spec]]()
+        self.found, self.types = dict[tuple[str, int], str](), dict[tuple[str, str], str]()
         self.outside: dict[str, set[str]] = {}
 
     def spec(self, module: str) -> Spec | None:
         if module not in self.specs:
             found = re.match(r"Rattle\.(\w+)\.specs\.(.+)$", module)
             path = found and f"crates/{found[1]}/specs/{found[2].replace('.', '/')}.antt"
-            self.specs[module] = Spec(path, self.repository.read(path)) if path and self.repository.has(path) else None
+            is_there = path and self.repository.has(path)
+            self.specs[module] = Spec(module, path, self.repository.read(path)) if path and is_there else None
         return self.specs[module]
 
     def visit(self, cited: Cited) -> None:
@@ -114,16 +114,16 @@ class Closure:
         if spec is None:
             self.outside.setdefault(module, set()).add(name)
         elif name in spec.place:
-            self.visit_paragraph(module, spec, spec.place[name])
+            self.visit_paragraph(spec, spec.place[name])
         elif used := spec.uses.of(name):
             self.visit(used)
         else:
             raise NotMade(f"{module} has no {name}")
 
-    def visit_paragraph(self, module: str, spec: Spec, place: int) -> None:
-        if (module, place) not in self.found:
-            self.found[module, place] = spec.paragraphs[place]
-            self.follow(spec.uses, spec.paragraphs[place], module, spec)
+    def visit_paragraph(self, spec: Spec, place: int) -> None:
+        if (spec.module, place) not in self.found:
+            self.found[spec.module, place] = spec.paragraphs[place]
+            self.follow(spec.uses, spec.paragraphs[place], spec)
 
     def visit_type(self, path: str, name: str) -> None:
         if (path, name) in self.types:
@@ -137,14 +137,14 @@ class Closure:
             if re.search(rf"(?<![\w.]){re.escape(own)}(?!\w)", without_comments(item)):
                 self.visit(cited)
 
-    def follow(self, uses: Uses, text: str, module: str = "", spec: Spec | None = None) -> None:
+    def follow(self, uses: Uses, text: str, spec: Spec | None = None) -> None:
         """Adds all that a text cites."""
         for token in TOKEN.findall(without_comments(text)):
             head = token.split(".")[0]
             if used := uses.of(token):
                 self.visit(used)
             elif spec and head in spec.place:
-                self.visit_paragraph(module, spec, spec.place[head])
+                self.visit_paragraph(spec, spec.place[head])
 
     def counts(self) -> tuple[int, int]:
         lines = [line.strip() for text in self.found.values() for line in text.split("\n")]
@@ -164,11 +164,6 @@ class Page:
         if not found:
             raise NotMade(f"{path} has no public {function}")
         return found[0].rstrip("\n")
-
-    def cite(self, path: str, function: str) -> None:
-        uses = Uses(ghost_uses(self.repository.read(path)))
-        for clause in CLAUSE.findall(self.contract(path, function)):
-            self.closure.follow(uses, clause)
 
     def theorem(self, path: str, function: str) -> list[str]:
         return ["```rust", self.contract(path, function), "```"]
@@ -213,9 +208,10 @@ class Page:
     def text(self) -> str:
         skeleton = self.repository.read(SKELETON).rstrip("\n").split("\n")
         said = [line.strip("{}").split() if line.startswith("{{") else [] for line in skeleton]
-        for words in said:
-            if words[:1] == ["theorem"]:
-                self.cite(*words[1:])
+        for path, function in (words[1:] for words in said if words[:1] == ["theorem"]):
+            uses = Uses(ghost_uses(self.repository.read(path)))
+            for clause in CLAUSE.findall(self.contract(path, function)):
+                self.closure.follow(uses, clause)
         parts = [getattr(self, words[0])(*words[1:]) if words else [line] for line, words in zip(skeleton, said)]
         wanted = {home for home, _ in (*self.closure.found, *self.closure.types)}
         inside = sorted(module for module in wanted if ".specs.inside." in module)

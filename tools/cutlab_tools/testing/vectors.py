@@ -13,25 +13,16 @@ from . import Cases
 
 # The numbers of the faults of a checkpoint that is refused.
 READINGS = {"NoStudy": 22, "OtherPlan": 23, "Damaged": 24}
-FaultFound = tuple[int, str]
 
 
 def vectors_of(name: str) -> Any:
     return json.loads((DATA / f"{name}.json").read_text())
 
 
-def fault_in(errors: str) -> FaultFound | str:
+def fault_in(errors: str) -> tuple[int, str] | str:
     """The number that a fault's line begins with, and the words after the fault's name."""
     found = re.fullmatch(r"cutlab: fault (\d+) \w+ ?(.*)\n", errors)
     return (int(found[1]), found[2]) if found else errors
-
-
-def reading_of(reading: Any) -> FaultFound | int:
-    """How a file is read, as a row says it: how many slips it has, or the fault."""
-    if isinstance(reading, list):
-        return len(reading)
-    name, _, place = reading.partition(" ")
-    return READINGS[name], place
 
 
 def pieces_in(held: bytes) -> list[tuple[int, int]]:
@@ -77,7 +68,10 @@ class Vectors(Cases):
                 self.file("new").unlink(missing_ok=True)
                 joined = re.match(r"joined (\d+) into", output)
                 found = int(joined[1]) if joined else fault_in(errors)
-                self.expect(f"the file {held['file']}", reading_of(held["reading"]), found)
+                reading = held["reading"]
+                name, _, place = reading.partition(" ") if isinstance(reading, str) else ("", "", "")
+                wanted = (READINGS[name], place) if name else len(reading)
+                self.expect(f"the file {held['file']}", wanted, found)
 
     def test_statuses(self) -> None:
         for row in vectors_of("statuses"):
