@@ -25,7 +25,7 @@ def dependencies() -> dict[str, list[str]]:
 
 
 def needed(below: dict[str, list[str]], name: str) -> set[str]:
-    """A crate and all that it stands on, the kit's crates left out."""
+    """A crate and all that it stands on but the kit's crates."""
     found = {name}
     while more := {it for crate in found for it in below[crate] if it in below} - found:
         found |= more
@@ -44,8 +44,8 @@ def copy_crates(place: Path, below: dict[str, list[str]], crates: set[str]) -> N
 
 def size_of(crate: str) -> int:
     """How many lines of code, definitions and proofs a crate has, by which its share of the work is estimated."""
-    parts = [ROOT / "crates" / crate / part for part in ("src", "specs", "proofs")]
-    return sum(it.read_bytes().count(b"\n") for part in parts for it in part.rglob("*") if it.is_file())
+    files = (it for part in ("src", "specs", "proofs") for it in (ROOT / "crates" / crate / part).rglob("*"))
+    return sum(it.read_bytes().count(b"\n") for it in files if it.is_file())
 
 
 def minutes(seconds: float) -> str:

@@ -29,8 +29,8 @@ CAMPAIGNS = [
     *[("texts", 100, 1), ("sessions", 20, 1), ("shares", 10, 1), ("migrations", 20, 1), ("checkpoints", 50, 1)],
     *[("exact", 6, 1), ("explanations", 20, 1)],
 ]
-# Crates with tests that are built soon, and whose code the campaigns reach least.
-TESTED = ["cut_command_line_tests"]
+# A crate with tests that is built soon, and whose code the campaigns reach least.
+TESTED = "cut_command_line_tests"
 # Checks of documents by the sources alone, and by what the program prints.
 BY_SOURCES = ["docs/statement/make --check", "docs/layers/make --check", "docs/words", "docs/faults"]
 BY_PROGRAM = ["docs/schema", "docs/manual/make --check", "docs/completions/make --check", "docs/refuses"]
@@ -43,8 +43,6 @@ TRIED = r"(\d+) tried, (\d+) different\n\Z"
 # The plans whose tables the unproved program has in seconds, and the commands that need a table.
 SMALL = ("one_crash.json", "watermarks.json")
 STUDIES = re.compile(r"\bcutlab (run|share|join|migrate|status|serve|ask)\b")
-# How long the commands of a page may take.
-SECONDS = 300
 
 
 class Result(NamedTuple):
@@ -69,10 +67,7 @@ def part(*words: str | Path, counts: str = "", cases: int = 1, cwd: Path = ROOT)
 
 
 def build(program: Path) -> Result:
-    try:
-        build_unproved(ROOT, program)
-    except NotBuilt as why:
-        return Result(0, 1, str(why))
+    build_unproved(ROOT, program)
     return Result(1, 0)
 
 
@@ -91,8 +86,7 @@ def layout() -> Result:
 
 def short(listed: list[Command]) -> list[Command]:
     """The commands of a page that need no large study, nor a file of one that does."""
-    kept: list[Command] = []
-    files: set[str] = set()
+    kept, files = list[Command](), set[str]()
     for command in listed:
         named = set(re.findall(r"[\w$]+\.(?:csv|cut|sock|txt)\b", command.text))
         if named & files or STUDIES.search(command.text) and not any(plan in command.text for plan in SMALL):
@@ -103,7 +97,7 @@ def short(listed: list[Command]) -> list[Command]:
 
 
 def pages(program: Path) -> Result:
-    count, differing = try_pages(program, short, SECONDS)
+    count, differing = try_pages(program, short, seconds=300)
     return Result(count - len(differing), len(differing), "\n".join(differing))
 
 
@@ -111,20 +105,20 @@ def timed(run: Part) -> Result:
     begun = time.monotonic()
     try:
         found = run()
-    except (OSError, subprocess.SubprocessError) as error:
+    except (NotBuilt, OSError, subprocess.SubprocessError) as error:
         found = Result(0, 1, str(error))
     return found._replace(seconds=time.monotonic() - begun)
 
 
 def before() -> dict[str, Part]:
     """The parts that need no program, by their names."""
-    test = partial(part, "rt", "try", "--test", counts=RUST_TESTS)
-    parts: dict[str, Part] = {f"tests of {it}": partial(test, cwd=ROOT / "crates" / it) for it in TESTED}
-    parts |= {"layout": layout, "tests of tools": partial(part, *UNITS, counts=PYTHON_TESTS)}
-    for name, *more in (words.split() for words in TOOLS):
+    test = partial(part, "rt", "try", "--test", counts=RUST_TESTS, cwd=ROOT / "crates" / TESTED)
+    units = partial(part, *UNITS, counts=PYTHON_TESTS)
+    parts: dict[str, Part] = {f"tests of {TESTED}": test, "layout": layout, "tests of tools": units}
+    for name, *more in map(str.split, TOOLS):
         missing = partial(Result, 0, 0, f"{name} is not installed, so the tools were not checked by it")
         parts[name] = partial(part, name, *more) if shutil.which(name) else missing
-    return parts | {name: partial(part, f"./{name}", *more) for name, *more in (it.split() for it in BY_SOURCES)}
+    return parts | {name: partial(part, f"./{name}", *more) for name, *more in map(str.split, BY_SOURCES)}
 
 
 def after(given: argparse.Namespace, program: Path) -> dict[str, Part]:
@@ -141,9 +135,7 @@ def after(given: argparse.Namespace, program: Path) -> dict[str, Part]:
             parts[name] = partial(part, *command, *numbers, cases=each)
     parts["commands of the pages"] = partial(pages, program)
     parts |= {name: partial(counted, ROOT / name, program) for name in ("tests/vectors", "tests/program")}
-    return parts | {
-        name: partial(part, f"./{name}", *more, program) for name, *more in (it.split() for it in BY_PROGRAM)
-    }
+    return parts | {name: partial(part, f"./{name}", *more, program) for name, *more in map(str.split, BY_PROGRAM)}
 
 
 def print_result(name: str, found: Result) -> Result:

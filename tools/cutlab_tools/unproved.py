@@ -1,4 +1,5 @@
 """The program as it stands, built unproved: by `rt try`, which builds with checks of its own what it runs and removes."""
+import contextlib
 import os
 import shutil
 import socket
@@ -32,15 +33,6 @@ def copy_server(path: Path, program: Path) -> None:
     program.chmod(0o755)
 
 
-def end(trial: subprocess.Popen[bytes], last: float) -> None:
-    """Waits for the end of what was started, which a moment after the last one is stopped."""
-    try:
-        trial.wait(timeout=max(0, last - time.monotonic()))
-    except subprocess.TimeoutExpired:
-        trial.terminate()
-        trial.wait()
-
-
 def build_unproved(root: Path, program: Path) -> None:
     """Builds the program of a copy of the repository into a file: it is run as a server, whose file is copied."""
     with tempfile.TemporaryDirectory() as folder, Path(folder, "log").open("w+", errors="replace") as log:
@@ -54,7 +46,10 @@ def build_unproved(root: Path, program: Path) -> None:
             if path.exists():
                 return copy_server(path, program)
         finally:
-            end(trial, last)
+            with contextlib.suppress(subprocess.TimeoutExpired):
+                trial.wait(timeout=max(0, last - time.monotonic()))
+            trial.terminate()  # (nothing, where it has ended)
+            trial.wait()
         log.seek(0)
         printed = log.read()
     if time.monotonic() >= last:

@@ -26,8 +26,7 @@ class FaultyPlans(Campaign):
     def case(self, rng: random.Random) -> None:
         plan = drawn_plan(rng)
         for _ in range(rng.randint(1, 3)):
-            if plan:
-                spoil(rng, plan)
+            spoil(rng, plan)
         self.expect_run(wanted(text_of(plan), sizes), "check", text=text_of(plan))
 
 
@@ -59,17 +58,16 @@ class Explanations(Campaign):
     no trial is right, that no more keys are drawn than it says, and the bytes of the checkpoint that a run leaves."""
 
     def case(self, rng: random.Random) -> None:
-        text = text_of({**drawn_plan(rng, most_work=10_000), "repeats": rng.choice([1, 2, 3, 17])})
-        plan = reference.plan_of(text)
-        layout, trials = reference.layout_of(plan), trials_of(plan)
+        plan = {**drawn_plan(rng, most_work=10_000), "repeats": rng.choice([1, 2, 3, 17])}
+        text, layout = text_of(plan), reference.layout_of(plan)
         lines, errors, status = self.program.run("explain", text=text)
         self.expect(f"explain < {text.decode()}", ("accepted", "", 0), (lines.split("\n")[0], errors, status))
         self.expect(text.decode(), sizes(plan), "\n".join([*lines.split("\n")[1:4], ""]))
         self.check_never_right(plan, layout, lines)
-        keys = sum(keys_in(plan, layout, trial) for trial in range(trials))
+        keys = sum(keys_in(plan, layout, trial) for trial in range(trials_of(plan)))
         most = number_after(lines, "keys drawn: at most")
-        what = f"{keys} keys are drawn, at most {most} by explain: {text.decode()}"
-        self.require(most is not None and keys <= most, what)
+        is_most = most is not None and keys <= most
+        self.require(is_most, f"{keys} keys are drawn, at most {most} by explain: {text.decode()}")
         self.program.run("run", "--checkpoint", "study.cut", text=text)
         size = (self.folder / "study.cut").stat().st_size
         self.expect(text.decode(), size, number_after(lines, "checkpoint: at most"))

@@ -15,6 +15,7 @@ import tempfile
 import time
 from collections import Counter
 from concurrent.futures import ThreadPoolExecutor
+from itertools import zip_longest
 from pathlib import Path
 from typing import NamedTuple, Sequence
 
@@ -63,8 +64,8 @@ def edit_of(path: Path) -> WrongBody:
 def all_edits() -> list[Path]:
     """The edits of all crates, one of each crate in turn."""
     folders = sorted(ROOT.glob("crates/*/must-fail"))
-    found = [it for folder in folders for it in enumerate(sorted(folder.glob("*.edit")))]
-    return [path for _, path in sorted(found, key=lambda it: it[0])]
+    turns = zip_longest(*(sorted(folder.glob("*.edit")) for folder in folders))
+    return [path for turn in turns for path in turn if path]
 
 
 def differs(words: str, program: Path, seconds: float) -> bool:
