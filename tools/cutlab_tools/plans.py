@@ -25,11 +25,6 @@ def drawn_seed(rng: random.Random) -> str:
     return f"{rng.getrandbits(256):064x}"
 
 
-def drawn_faults(rng: random.Random, version: int, deaf: Callable[[], int]) -> Plan:
-    """How the targets of a plan of a version fail, in version 2 with a drawn number of deaf ones."""
-    return {"faults": rng.choice(["crash", "deaf"])} if version == 1 else {"deaf": deaf()}
-
-
 def drawn_fields(rng: random.Random, versions: Sequence[int]) -> Plan:
     """Values for the fields of a plan, which may not go together."""
     nodes = rng.choice([2, 3, 4, 5, 6, 8, 9, 12, 17, 24, 33, 40])
@@ -41,7 +36,9 @@ def drawn_fields(rng: random.Random, versions: Sequence[int]) -> Plan:
     plan |= {"h": rising(rng, 1, k[-1], 3), "implicit": rng.random() < 0.5, "k": k, "l": rising(rng, 1, k[-1], 3)}
     plan |= {"liars": liars, "links": rng.choice([0, 0, 2, rng.randint(0, nodes)]), "nodes": nodes}
     plan |= {"repeats": rng.randint(1, 4), "seed": drawn_seed(rng), "version": rng.choice(versions)}
-    return plan | drawn_faults(rng, plan["version"], lambda: rng.choice([0, 1, 2, rng.randint(0, 2048)]))
+    if plan["version"] == 1:
+        return {**plan, "faults": rng.choice(["crash", "deaf"])}
+    return {**plan, "deaf": rng.choice([0, 1, 2, rng.randint(0, 2048)])}
 
 
 def drawn_plan(rng: random.Random, versions: Sequence[int] = (1, 2), most_work: int = 40_000) -> Plan:

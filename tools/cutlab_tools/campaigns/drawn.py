@@ -7,7 +7,7 @@ from typing import Any
 
 from ..damage import spoil
 from ..paths import reference
-from ..plans import Plan, drawn_faults, drawn_plan, drawn_seed, drawn_words, rising, sizes, text_of, trials_of, wanted
+from ..plans import Plan, drawn_fields, drawn_plan, drawn_words, rising, sizes, text_of, trials_of, wanted
 from ..program import build_peer
 from .campaign import Campaign
 
@@ -85,14 +85,11 @@ class Explanations(Campaign):
 
 def large_plan(rng: random.Random) -> Plan:
     """A plan of up to 2,048 processes and 32 rings, in a few cells."""
-    nodes = rng.choice([64, 100, 255, 256, 257, 500, 1000, 2047, 2048])
-    top = rng.choice([3, 8, 10, 16, 31, 32])
-    plan: Plan = {"copies": rng.choice([1, 1, 2, 4]), "dead": rng.choice(["silent", "speak"])}
+    plan, top = drawn_fields(rng, (1, 2)), rng.choice([3, 8, 10, 16, 31, 32])
     plan |= {"f": rising(rng, 0, rng.choice([2, 6, 12]), 1), "h": rising(rng, max(1, top // 2), top, 2)}
-    plan |= {"implicit": rng.random() < 0.5, "k": [top], "l": rising(rng, 1, max(1, top // 2), 2)}
-    plan |= {"liars": rng.choice([0, 1, 3]), "links": rng.choice([0, 2, 8]), "nodes": nodes}
-    plan |= {"repeats": rng.randint(1, 2), "seed": drawn_seed(rng), "version": rng.choice([1, 2])}
-    return plan | drawn_faults(rng, plan["version"], lambda: rng.choice([0, 1, 2048]))
+    plan |= {"k": [top], "l": rising(rng, 1, max(1, top // 2), 2), "repeats": rng.randint(1, 2)}
+    plan |= {"liars": rng.choice([0, 1, 3]), "links": rng.choice([0, 2, 8])}
+    return {**plan, "nodes": rng.choice([64, 100, 255, 256, 257, 500, 1000, 2047, 2048])}
 
 
 class Peers(Campaign):

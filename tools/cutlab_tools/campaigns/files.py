@@ -1,4 +1,5 @@
 """Campaigns over checkpoint files: studies that go on from them, are killed, divided, joined and moved."""
+import json
 import random
 import re
 import time
@@ -27,10 +28,8 @@ class Checkpoints(Campaign):
     swapped, changed or of another plan. The table, and the file that is left, beside the reference's."""
 
     def case(self, rng: random.Random) -> None:
-        text = text_of(drawn_plan(rng, most_work=10_000))
-        plan = reference.plan_of(text)
-        held = drawn_file(rng, plan, drawn_slips(rng, plan))
-        path = self.folder / "study.cut"
+        plan, path = drawn_plan(rng, most_work=10_000), self.folder / "study.cut"
+        text, held = text_of(plan), drawn_file(rng, plan, drawn_slips(rng, plan))
         path.write_bytes(held)
         found = self.program.run("run", "--checkpoint", "study.cut", *drawn_words(rng, 3, 4), text=text)
         self.expect(f"{text.decode()} over {held.hex()}", wanted(plan, held), found)
@@ -43,12 +42,11 @@ class Checkpoints(Campaign):
 
 
 CALL = re.compile(r'(?:\[pid +\d+\] |\d+ +)?(?:fsync|pwrite64)\(3(?:, "((?:\\x[0-9a-f]{2})*)", \d+, (\d+))?')
-GATE = b"\xa5"
 
 
 class Crashes(Campaign):
     """Crash images: the writes and syncs of a real run, as strace shows them, up to a drawn moment. Of what was written since
-    the last sync any byte may be there or another. Each has to read as the acknowledged slips or one more, and to be gone on with.
+    the last sync any byte may be there or another. Each reads as the acknowledged slips or one more, and is gone on with.
     """
 
     def calls_of(self, text: bytes, piece: int) -> Calls:
@@ -60,8 +58,8 @@ class Crashes(Campaign):
         return [Write(int(it[2]), bytes.fromhex(it[1].replace("\\x", ""))) if it[2] else None for it in found]
 
     def case(self, rng: random.Random) -> None:
-        text = text_of(drawn_plan(rng, most_work=6_000))
-        plan, piece, path = reference.plan_of(text), rng.randint(1, 3), self.folder / "study.cut"
+        plan, piece, path = drawn_plan(rng, most_work=6_000), rng.randint(1, 3), self.folder / "study.cut"
+        text = text_of(plan)
         calls = self.calls_of(text, piece)
         whole, table = reference.slips_of(plan, path.read_bytes()), reference.table(plan)
         for _ in range(20):
@@ -73,8 +71,7 @@ class Crashes(Campaign):
             self.expect_run(Ended(table), "run", "--checkpoint", "study.cut", text=text, what=what)
 
     def check_read(self, what: str, plan: Plan, whole: list[reference.Slip], made: Calls, left: bytes) -> None:
-        gates = [bool(write and write.written == GATE) for write in made]
-        acknowledged = sum(gates[:-1]) - 1
+        acknowledged = sum(bool(write and write.written == b"\xa5") for write in made[:-1]) - 1
         try:
             slips = reference.slips_of(plan, left)
         except reference.Fault as fault:
@@ -94,14 +91,14 @@ def long_plan(rng: random.Random, size: float) -> Plan:
 
 class Kills(Campaign):
     """`kill -9` at drawn moments: a study with a checkpoint, or the one share of it, is killed and given again until it is done.
-    Its table is that of a study that ran at once, and the reference's of a small one. What it wrote before is a prefix of it.
+    Its table is that of a study that ran at once, and the reference's of a small one; what it wrote before is a prefix.
     """
 
     options = {"size": dict(type=float, default=1, help="how large the studies are: less than 1 for a slow program")}
 
     def case(self, rng: random.Random) -> None:
-        text = text_of(long_plan(rng, self.values["size"]))
-        plan, begun = reference.plan_of(text), time.monotonic()
+        plan = long_plan(rng, self.values["size"])
+        text, begun = text_of(plan), time.monotonic()
         whole = self.table_of(text, "--workers", "2")
         longest = max(0.08, time.monotonic() - begun)
         if work_of(plan) < 200_000:
@@ -138,8 +135,7 @@ class Migrations(Campaign):
     reference's. Slips with other sums than their trials give are refused."""
 
     def case(self, rng: random.Random) -> None:
-        text = text_of(drawn_plan(rng, versions=(1,), most_work=10_000))
-        plan = reference.plan_of(text)
+        plan = drawn_plan(rng, versions=(1,), most_work=10_000)
         slips, layout, newer = true_slips(rng, plan), reference.layout_of(plan), upgrade(plan)
         moved = [(first, count, reference.piece_sums(newer, layout, first, count)) for first, count, _ in slips]
         wanted = Ended(f"migrated {len(slips)}\n")
@@ -154,8 +150,8 @@ class Migrations(Campaign):
                 refusal = "17 BadSlip"
             wanted = Ended("", f"cutlab: fault {refusal} {wrong + 1}\n", 4)
         (self.folder / "old.cut").write_bytes(reference.file_of(plan, slips))
-        what = f"{text.decode()} with {slips}"
-        self.expect_run(wanted, "migrate", "old.cut", "new.cut", text=text, what=what)
+        what = f"{json.dumps(plan)} with {slips}"
+        self.expect_run(wanted, "migrate", "old.cut", "new.cut", text=text_of(plan), what=what)
         if wanted.status == 0:
             found = (self.folder / "new.cut").read_bytes()
             self.expect(f"the new file of {what}", reference.file_of(newer, moved), found)

@@ -1,4 +1,5 @@
 """Campaigns over servers: what clients are sent, whatever they send, and after servers that were killed."""
+import contextlib
 import json
 import random
 import tempfile
@@ -107,41 +108,38 @@ class Restarts(Campaign):
         self.expect("how many studies are kept", 1, len(kept))
         slips_in(reference.plan_of(text), kept[0].read_bytes())
 
-    def started(self, rng: random.Random) -> Child[bytes]:
-        """A server of one session that keeps its study in the folder. It makes its socket soon, unless it ends before."""
+    @contextlib.contextmanager
+    def server(self, rng: random.Random) -> Iterator[Child[bytes]]:
+        """A server of one session that keeps its study in the folder, and is killed. It makes its socket soon."""
         path, last = self.folder / "s", time.monotonic() + 10
         server = self.program.serve(path, "--dir", self.folder, workers=rng.randint(1, 3))
-        while not path.exists():
-            if server.poll() is not None or time.monotonic() > last:
-                raise Differs("the server makes no socket")
-            time.sleep(0.005)
-        return server
+        try:
+            while not path.exists():
+                if server.poll() is not None or time.monotonic() > last:
+                    raise Differs("the server makes no socket")
+                time.sleep(0.005)
+            yield server
+        finally:
+            server.kill()
+            end_of(server, 60)
+            path.unlink(missing_ok=True)
 
     def cut_off(self, rng: random.Random, text: bytes) -> Ended:
         """What a client was sent by a server that is killed after some time."""
-        server = self.started(rng)
-        try:
+        with self.server(rng):
             client = self.program.start("ask", "s", text=text)
             time.sleep(rng.random() * 0.1)
-        finally:
-            server.kill()
-        found = end_of(client)
-        end_of(server, 60)
-        (self.folder / "s").unlink(missing_ok=True)
-        return found
+        return end_of(client)
 
     def served(self, rng: random.Random, text: bytes) -> Ended:
         """What a client was sent by a server that lasts, once it listens at its socket."""
-        server = self.started(rng)
-        try:
+        with self.server(rng) as server:
             for _ in range(1000):
                 found = end_of(self.program.start("ask", "s", text=text))
                 if found != Ended("", "cutlab: fault 43 Read\n", 4):
                     break
                 time.sleep(0.005)
-            end_of(server, 60)
-        finally:
-            server.kill()
+            server.wait(60)
         return found
 
 
