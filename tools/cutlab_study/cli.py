@@ -5,11 +5,7 @@ import sys
 from pathlib import Path
 from typing import Any, Callable, Iterable, Iterator
 
-from . import vary as varying
-from .choose import ORDERS, Limits
-from .choose import choose as chosen
-from .exact import CellColumns, beside, ladder
-from .exact import exact as columns_of
+from . import choose as choosing, exact as shares, vary as varying
 from .plans import Refused, read_plan, read_text
 from .plot import View, plot_along, plot_gaps, plot_rare
 from .report import page
@@ -46,8 +42,8 @@ LIMITS = [
 BY_ROLES = "exact shares by the roles of how many trials of each cell"
 
 
-def limits_of(given: Words) -> Limits:
-    return Limits(given.conflicts, given.silent, given.right)
+def limits_of(given: Words) -> choosing.Limits:
+    return choosing.Limits(given.conflicts, given.silent, given.right)
 
 
 def parts(text: str, option: str, why: str) -> tuple[str, str]:
@@ -58,12 +54,12 @@ def parts(text: str, option: str, why: str) -> tuple[str, str]:
     return name, value
 
 
-def exact_line(it: CellColumns) -> str:
+def exact_line(it: shares.CellColumns) -> str:
     cell = ",".join(map(str, it.cell))
     if it.columns is None:
         return f"# {cell} left out: {it.why}"
-    shares: Iterable[Any] = it.columns
-    return ",".join([cell, *(f"{float(share):.6g}" for share in shares), str(it.trials)])
+    columns: Iterable[Any] = it.columns
+    return ",".join([cell, *(f"{float(share):.6g}" for share in columns), str(it.trials)])
 
 
 @command(
@@ -79,24 +75,24 @@ def exact(given: Words) -> Iterator[str]:
     if given.ladder:
         yield "k,h,l,f,conflicts,fraction"
         for k in plan["k"]:
-            for h, l, f, share in ladder(k, [it for it in plan["f"] if it]):
+            for h, l, f, share in shares.ladder(k, [it for it in plan["f"] if it]):
                 yield f"{k},{h},{l},{f},{float(share):.6g},{share if share.denominator < 10**24 else ''}"
     elif given.beside:
-        yield from beside(plan, read_table(given.beside))
+        yield from shares.beside(plan, read_table(given.beside))
     else:
         yield "k,h,l,f,conflicts,silent,extra,decided,right,trials"
-        yield from map(exact_line, columns_of(plan, given.trials))
+        yield from map(exact_line, shares.exact(plan, given.trials))
 
 
 @command(
     TABLE,
-    word("--by", choices=sorted(ORDERS), default="conflicts", about="what the best pair has least or most of"),
+    word("--by", choices=sorted(choosing.ORDERS), default="conflicts", about="what the best pair has least or most of"),
     word("--best", type=int, default=1, about="how many pairs for each number of rings (1)"),
     *LIMITS,
 )
 def choose(given: Words) -> list[str]:
     """Say which watermarks do best in a table"""
-    return chosen(read_table(given.table), limits_of(given), given.by, given.best)[1]
+    return choosing.choose(read_table(given.table), limits_of(given), given.by, given.best)[1]
 
 
 @command(

@@ -191,11 +191,6 @@ class Shares:
         kinds = zip(self.world.kinds, counts)
         return tuple((kind.need(self.rule.h, members), count) for (kind, _), count in kinds if count)
 
-    def all_stable(self, members: Counts) -> Polynomial:
-        """The chance that each process of a set is stable by u."""
-        needs = self.needs(members, members)
-        return product_of(stable(need, self.rule.l) for need, count in needs for _ in range(count))
-
     def integrals(self, needs: Needs) -> dict[int, list[int]]:
         """For processes none of which is reported at v, and each of which is stable at u: for each power b of that chance,
         the numbers by which u^(p + b + 1) / (p + b + 1)! counts where v^p / p! is integrated against it, for each p that a
@@ -215,7 +210,9 @@ class Shares:
         """The density with which a receiver that hears of a set alone proposes all of it, by powers u^p / p!."""
         if members in self.densities:
             return self.densities[members]
-        whole = Counter({n: x * factorial(n) for n, x in self.all_stable(members).items()})
+        needs = self.needs(members, members)
+        all_stable = product_of(stable(need, self.rule.l) for need, count in needs for _ in range(count))
+        whole = Counter({n: x * factorial(n) for n, x in all_stable.items()})
         for part in below(members):
             earlier = self.density(part) if any(part) and part != members else {}
             if not earlier:

@@ -19,17 +19,10 @@ class Argument(NamedTuple):
     is_word: bool
 
     @property
-    def is_file(self) -> bool:
-        return self.value in FILES
-
-    @property
-    def is_folder(self) -> bool:
-        return self.value in FOLDERS
-
-    @property
-    def is_valued(self) -> bool:
-        """An option with a value that is no path."""
-        return bool(self.value) and not (self.is_word or self.is_file or self.is_folder)
+    def takes(self) -> str:
+        """What it takes: a file, a folder, as an option another value, or nothing."""
+        other = "value" if self.value and not self.is_word else ""
+        return "folder" if self.value in FOLDERS else "file" if self.value in FILES else other
 
 
 class Command(NamedTuple):
@@ -44,7 +37,7 @@ class Command(NamedTuple):
 
     @property
     def takes_files(self) -> bool:
-        return any(it.is_word and it.is_file for it in self.arguments)
+        return any(it.is_word and it.takes == "file" for it in self.arguments)
 
 
 def arguments(lines: list[str]) -> list[Argument]:

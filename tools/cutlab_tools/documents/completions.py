@@ -14,8 +14,8 @@ HELP = Command("help", "Print the help of a command", [], [])
 def bash(listed: list[Command]) -> dict[str, str]:
     valued = {it.name: it for command in listed for it in command.options if it.value}
     reply = 'mapfile -t COMPREPLY < <(compgen {} -- "$current")'.format
-    actions = {"is_file": f'{reply("-f")}; ', "is_folder": f'{reply("-d")}; ', "is_valued": ""}
-    groups = [([name for name, it in valued.items() if getattr(it, kind)], action) for kind, action in actions.items()]
+    actions = {"file": f'{reply("-f")}; ', "folder": f'{reply("-d")}; ', "value": ""}
+    groups = [([name for name, it in valued.items() if it.takes == kind], action) for kind, action in actions.items()]
     values = [f"    --{' | --'.join(its)}) {action}return ;;" for its, action in groups if its]
     lines = []
     for command in listed:
@@ -34,7 +34,7 @@ def zsh_text(text: str) -> str:
 def zsh_spec(it: Argument) -> str:
     """An argument as `_arguments` of zsh takes it."""
     words, value = zsh_text(it.help), zsh_text(it.value)
-    action = "_files -/" if it.is_folder else "_files" if it.is_file else ""
+    action = {"folder": "_files -/", "file": "_files"}.get(it.takes, "")
     if it.is_word:
         return f"'*:{value}:{action}'" if value.endswith("..") else f"':{value} -- {words}:{action}'"
     return f"'--{it.name}[{words}]{f':{value}:{action}' if value else ''}'"
@@ -61,8 +61,10 @@ def fish(listed: list[Command]) -> Iterator[str]:
         when = f"complete -c cutlab -n '__fish_seen_subcommand_from {command.name}'"
         yield from ["", f"{when} -F"] if command.takes_files else [""]
         for it in command.options:
-            takes = " -r -a '(__fish_complete_directories)'" if it.is_folder else " -r -F" if it.is_file else " -x"
-            yield f"{when} -l {it.name}{takes if it.value else ''} -d {fish_text(it.help)}"
+            takes = {"folder": " -r -a '(__fish_complete_directories)'", "file": " -r -F", "value": " -x"}.get(
+                it.takes, ""
+            )
+            yield f"{when} -l {it.name}{takes} -d {fish_text(it.help)}"
         yield f"{when} -l help -d 'Print help'"
 
 

@@ -60,7 +60,7 @@ def made(repository: Repository) -> dict[str, str]:
 def differences(repository: Repository) -> Iterator[str]:
     """The options whose help names another range than the program takes."""
     for command in commands(repository):
-        for option in (it for it in command.options if it.is_valued):
+        for option in (it for it in command.options if it.takes == "value"):
             low, high = range_taken(repository, command.name, option)
             if not re.search(rf" from {low} to {high}(?!\d)", option.help):
                 yield f"the help: {command.name} --{option.name} takes {low} to {high}: {option.help}"

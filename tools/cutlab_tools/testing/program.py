@@ -310,8 +310,7 @@ class Machines(ProgramCases):
             joined = {trials[name] for name in names[:count]}
             ranges = sum(trial - 1 not in joined for trial in joined)
             found = self.program.run("join", f"joined{count}.cut", *names[:count], text=many)
-            wanted = Ended(f"joined {count} into {ranges}, {count} of 1000\n")
-            self.expect(f"a join of {count} files", wanted, found)
+            self.expect(f"a join of {count} files", Ended(f"joined {count} into {ranges}, {count} of 1000\n"), found)
         is_same = before == [self.file(name).read_bytes() for name in names]
         self.expect("whether files that were joined stay as they were", True, is_same)
         self.ends("run --checkpoint joined1000.cut", f"{HEADER}1,1,1,1,1000,4000,0,0,0,4000,1000,1000,0\n", many)
@@ -326,16 +325,14 @@ class Machines(ProgramCases):
         output, errors, status = self.program.run(*row.split(), "--progress", text=plan)
         lines = re.findall("(?m)^cutlab: ([0-9]+) of ([0-9]+) trials, [0-9]+ s(?:, about [0-9]+ s left)?$", errors)
         self.expect("a resumed share", (0, "share 1 of 2: 4 of 4\n"), (status, output))
-        found = len(lines), lines[-1:]
-        self.expect("its lines of progress", (errors.count("\n"), [("4", "4")]), found)
+        self.expect("its lines of progress", (errors.count("\n"), [("4", "4")]), (len(lines), lines[-1:]))
         self.expect("a number in them", [], [line for line in lines if line not in (("2", "4"), ("4", "4"))])
         self.expect("the length of a resumed share", len(whole), self.size("share.cut"))
 
     def test_pieces(self) -> None:
         """A file has one slip for each piece, whichever the number of workers: seven trials, three a piece."""
         plan = plan_with(repeats=7)
-        row = f"{HEADER}1,1,1,1,7,28,0,0,0,28,7,7,0\n"
-        self.ends("run --piece 3 --workers 2 --checkpoint run.cut", row, plan)
+        self.ends("run --piece 3 --workers 2 --checkpoint run.cut", f"{HEADER}1,1,1,1,7,28,0,0,0,28,7,7,0\n", plan)
         self.ends("share 1/1 --piece 3 --workers 2 share.cut", "share 1 of 1: 7 of 7\n", plan)
         for name in ("run.cut", "share.cut"):
             self.expect(f"the length of {name}", 45 + len(plan) + 3 * SLIP + 1, self.size(name))
@@ -361,9 +358,8 @@ class Lines(ProgramCases):
         """An output that takes some bytes and then fails."""
         for word, room in (("run", 0), ("run", 14), ("check", 7), ("--help", 21)):
             with self.file("output").open("wb") as output:
-                streams = dict(stdout=output, stderr=subprocess.PIPE, restore_signals=False)
-                command, limit = [self.path, word], partial(limit_files, room)
-                done = subprocess.run(command, input=PLAN, preexec_fn=limit, timeout=120, **streams)  # type: ignore
+                how: dict[str, Any] = dict(stdout=output, stderr=subprocess.PIPE, restore_signals=False, timeout=120)
+                done = subprocess.run([self.path, word], input=PLAN, preexec_fn=partial(limit_files, room), **how)
             found = done.returncode, done.stderr.decode(), self.size("output")
             self.expect(f"{word} with room for {room} bytes", (4, line_of(f"31 Write {room}"), room), found)
 
