@@ -3,7 +3,7 @@ from operator import attrgetter
 from typing import Callable, Iterator, NamedTuple
 
 from .plans import Refused
-from .tables import Line, Share, Table, shown
+from .tables import Line, Share, Table, grouped, shown
 
 Pair = tuple[int, int, int]
 # What may have a limit: whether that is the most, and what it is a share of.
@@ -78,10 +78,7 @@ def said_of(it: Worst) -> list[str]:
 
 def choose(table: Table, limits: Limits, order: str, best: int) -> tuple[set[Pair], list[str]]:
     """The best pairs for each number of rings, and what is said of them; where there are none, the nearest is."""
-    pairs: dict[Pair, list[Line]] = {}
-    for it in table.lines:
-        if it.f > 0:
-            pairs.setdefault((it.k, it.h, it.l), []).append(it)
+    pairs = grouped(table.failing, lambda it: it.cell[:3])
     if not pairs:
         raise Refused(
             f"{table.name}: it has only cells in which nobody fails, and no pair is better than another there"
@@ -94,9 +91,6 @@ def choose(table: Table, limits: Limits, order: str, best: int) -> tuple[set[Pai
     if not chosen:
         nearest = min(found, key=limits.distance)
         near, *price = said_of(nearest)
-        lines = [
-            f"no pair keeps to the limits. The nearest is {near}",
-            f"  it lacks: {'; '.join(limits.lacks(nearest))}",
-        ]
-        raise Refused("\n".join([*lines, *price]))
+        lacks = f"  it lacks: {'; '.join(limits.lacks(nearest))}"
+        raise Refused("\n".join([f"no pair keeps to the limits. The nearest is {near}", lacks, *price]))
     return {it.pair for it in chosen}, [line for it in chosen for line in said_of(it)]

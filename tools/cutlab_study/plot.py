@@ -6,7 +6,7 @@ from typing import Iterable, Mapping, NamedTuple
 
 from .exact import crash_share, needs_no_roles
 from .plans import Plan, Refused, cells
-from .tables import Line, Table, check_fits, rows_in
+from .tables import Table, check_fits, grouped, rows_in
 
 TERMINALS = {
     ".svg": 'svg size {width},{height} font "sans-serif,16" background "white"',
@@ -49,12 +49,9 @@ def curves(lines: Mapping[str, Points], is_dashed: bool) -> list[str]:
 def panel(table: Table, k: int, part: str) -> list[str]:
     """The commands of one panel: a line for each number of failed processes."""
     lines: dict[str, Points] = {}
-    for f in sorted({it.f for it in table.lines if it.k == k and it.f > 0}):
-        groups: dict[int, list[Line]] = {}
-        for it in table.lines:
-            if (it.k, it.f) == (k, f):
-                groups.setdefault(it.h - it.l if part == "conflicts" else it.l, []).append(it)
-        sums = [(at, [sum(getattr(it, name) for it in its) for name in SUMS]) for at, its in sorted(groups.items())]
+    for f, of_f in grouped((it for it in table.failing if it.k == k), lambda it: it.f).items():
+        places = grouped(of_f, lambda it: it.h - it.l if part == "conflicts" else it.l)
+        sums = [(at, [sum(getattr(it, name) for it in its) for name in SUMS]) for at, its in places.items()]
         lines[f"F = {f}"] = points(sums, part, 1e-3)
     if part == "conflicts":
         scale, what = logarithmic("0.001", "0.001", "0.01", "0.1"), "Conflicts, % of those that proposed, by H - L"
@@ -86,10 +83,10 @@ def check_lines(name: str, what: str, count: int) -> None:
 
 def plot_gaps(table: Table, picture: str) -> None:
     """Draws for each K the conflicts by H - L and the silence by L, with a line for each F."""
-    rings = sorted({it.k for it in table.lines if it.f > 0})
+    rings = sorted({it.k for it in table.failing})
     if not rings:
         raise Refused(f"{table.name}: nobody fails in any of its cells, so there are no conflicts to draw")
-    check_lines(table.name, "f", len({it.f for it in table.lines if it.f > 0}))
+    check_lines(table.name, "f", len({it.f for it in table.failing}))
     panels = [command for k in rings for part in ("conflicts", "silent") for command in panel(table, k, part)]
     first = [f"set multiplot layout {2 * len(rings)},1", "set xtics 1", "set offsets 0.3, 0.3, 0, 0"]
     draw(picture, [*first, *panels, "unset multiplot"], 520, 410 * 2 * len(rings))

@@ -9,7 +9,7 @@ from string import Template
 from .choose import Limits, Pair, choose
 from .exact import exact
 from .plans import Cell, Plan, Refused
-from .tables import Line, Table, check_fits, shown
+from .tables import Line, Table, check_fits, grouped, shown
 
 WIDE, HIGH, LEFT, TOP = 172, 104, 64, 34
 # The rarest share that has a shade of its own; the lightest and the darkest shade, as red, green and blue.
@@ -95,15 +95,12 @@ def page(plan: Plan, table: Table, limits: Limits, trials: int) -> str:
         chosen, said = choose(table, limits, "conflicts", 1)
     except Refused as why:
         chosen, said = set(), [str(why)]
-    groups: dict[tuple[int, int], list[Line]] = {}
-    for it in table.lines:
-        if it.f > 0:
-            groups.setdefault((it.k, it.f), []).append(it)
+    groups = grouped(table.failing, lambda it: (it.k, it.f))
     found = {
         "scale": scale(),
         "choice": "".join(f"<li>{escape(it.strip())}</li>" for it in said),
         "exact": escape(of_exact),
-        "grids": "".join(grid(lines, known, chosen) for _, lines in sorted(groups.items())),
+        "grids": "".join(grid(lines, known, chosen) for lines in groups.values()),
         "lines": "\n".join(map(row, table.lines)),
         "plan": escape(",\n ".join(f'"{name}": {json.dumps(value)}' for name, value in plan.items())),
     }

@@ -2,11 +2,13 @@
 import csv
 import io
 import math
-from typing import NamedTuple
+from itertools import groupby
+from typing import Any, Callable, Iterable, NamedTuple, TypeVar
 
 from .plans import Cell, Plan, Refused, cells, read_text
 
 COUNTS = ("trials", "receivers", "conflicts", "silent", "extra", "votes", "decided", "right", "settled")
+Key = TypeVar("Key", bound=Any)
 # The distance of the bounds of 95 %, in standard deviations.
 DISTANCE = 1.959964
 
@@ -90,6 +92,16 @@ class Table(NamedTuple):
 
     name: str
     lines: list[Line]
+
+    @property
+    def failing(self) -> list[Line]:
+        """The lines in which somebody fails."""
+        return [it for it in self.lines if it.f > 0]
+
+
+def grouped(lines: Iterable[Line], key: Callable[[Line], Key]) -> dict[Key, list[Line]]:
+    """Lines by what they have in common, in its order."""
+    return {common: list(its) for common, its in groupby(sorted(lines, key=key), key)}
 
 
 def rows_in(text: bytes) -> list[dict[str, str]]:

@@ -131,8 +131,7 @@ def after(given: argparse.Namespace, program: Path) -> dict[str, Part]:
         command = [ROOT / "campaigns" / campaign, "--program", program, "--forget", "--seed", given.seed, *rest]
         for share in range(shares):
             name = f"{words} ({share + 1} of {shares})" if shares > 1 else words
-            numbers = ["--from", str(share * each), "--count", str(each)]
-            parts[name] = partial(part, *command, *numbers, cases=each)
+            parts[name] = partial(part, *command, "--from", str(share * each), "--count", str(each), cases=each)
     parts["commands of the pages"] = partial(pages, program)
     parts |= {name: partial(counted, ROOT / name, program) for name in ("tests/vectors", "tests/program")}
     return parts | {name: partial(part, f"./{name}", *more, program) for name, *more in map(str.split, BY_PROGRAM)}

@@ -106,8 +106,7 @@ class Choices(unittest.TestCase):
         self.assertIn("one lost alert", said[2])
 
     def test_nothing_fits(self) -> None:
-        near = "The nearest is K = 10, H = 9, L = 1(?s:.*)it lacks: .*conflicts"
-        with self.assertRaisesRegex(plans.Refused, near):
+        with self.assertRaisesRegex(plans.Refused, "The nearest is K = 10, H = 9, L = 1(?s:.*)it lacks: .*conflicts"):
             choose.choose(table(self.LINES[0]), choose.Limits(0.0001, 0.001, None), "conflicts", 1)
 
     def test_the_nearest_may_be_narrow(self) -> None:
@@ -147,13 +146,12 @@ class Tables(unittest.TestCase):
                     vary.pool([(one, csv), (second, csv)])
 
     def test_values_of_fields(self) -> None:
-        texts = {
-            "seed": ("0" * 64, "0" * 64),
+        texts: dict[str, tuple[str, Any]] = {
             "h": ("8,9", [8, 9]),
             "implicit": ("true", True),
             "dead": ("speak", "speak"),
         }
-        for field, (text, value) in texts.items():
+        for field, (text, value) in {**texts, "seed": ("0" * 64, "0" * 64)}.items():
             self.assertEqual(vary.value_of(field, text), value)
 
     def test_differences(self) -> None:

@@ -41,10 +41,9 @@ def keys_in(plan: Plan, layout: reference.Layout, trial: int) -> int:
 def never_right(plan: Plan) -> dict[str, list[int]]:
     """The cells in which no trial is right, by why not, as explain begins their lines."""
     found: dict[str, list[int]] = {"right": [], "decided and right": []}
-    most = plan["nodes"] - reference.quorum(plan["nodes"])
     for number, (_, h, l, f) in enumerate(reference.cells(plan)):
         found["right"] += [number] * (f == 0) + [number] * (l == h and f >= 2)
-        found["decided and right"] += [number] * (f > most)
+        found["decided and right"] += [number] * (plan["nodes"] - f < reference.quorum(plan["nodes"]))
     return found
 
 

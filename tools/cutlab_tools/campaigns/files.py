@@ -215,8 +215,7 @@ class Shares(Campaign):
         trials = {trial for block in blocks for trial in block}
         line = f"joined {len(blocks)} into {runs_of(plan, trials)}, {len(trials)} of {trials_of(plan)}\n"
         self.expect_run(Ended(line), "join", new.name, *files, text=text)
-        joined = trials_in(slips_in(plan, new.read_bytes()))
-        self.expect("the trials of the joined slips", sorted(trials), joined)
+        self.expect("the trials of the joined slips", sorted(trials), trials_in(slips_in(plan, new.read_bytes())))
         self.expect_run(Ended(status_of(plan, trials)), "status", new.name, what="the status of the joined file")
         self.check_refused(files, new)
         self.expect_run(Ended(reference.table(plan)), "run", "--checkpoint", new.name, text=text, what="the table")

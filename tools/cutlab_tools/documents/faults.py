@@ -20,14 +20,8 @@ STANDS_FOR = re.compile(
     r"^(?:code|number)_of\w* \(?(?:\w+\.)?(\w+)[^=]*= (?:[\w.]*number_of )?(?:code\.)?([A-Z]\w+)$", re.M
 )
 # Faults that say more by another name: of memory while a study is run, of what is written or read, and of a place.
-RENAMED = {
-    "Memory": "WorkMemory",
-    "Request": "Write",
-    "Output": "Write",
-    "Endless": "Read",
-    "Socket": "Read",
-    "Folder": "Disk",
-}
+RENAMED = {"Memory": "WorkMemory", "Request": "Write", "Output": "Write"}
+RENAMED |= {"Endless": "Read", "Socket": "Read", "Folder": "Disk"}
 
 
 def differences(repository: Repository) -> Iterator[str]:

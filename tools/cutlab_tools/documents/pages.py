@@ -64,9 +64,8 @@ def try_commands(listed: list[Command], place: Path, seconds: float = SECONDS) -
         script = "\n".join([*runs, end])
         subprocess.run(["bash", "-c", script], cwd=place, timeout=seconds, stdin=subprocess.DEVNULL)
         printed = [it.read_text(errors="replace").rstrip("\n").split("\n") if it.exists() else [] for it in files]
-    for it in listed:
-        if it.lacks:
-            print(f"try: {it.place}: skipped, as {it.lacks} is not installed")
+    for it in (it for it in listed if it.lacks):
+        print(f"try: {it.place}: skipped, as {it.lacks} is not installed")
     found = [it.difference(lines) for it, lines in zip(listed, printed) if not it.lacks]
     return len(found), [it for it in found if it]
 

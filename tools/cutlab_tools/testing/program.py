@@ -139,8 +139,7 @@ class Studies(ProgramCases):
         self.ends("check", refused("10 TooManyTrials", 3), plan_with(**three))
         self.ends("check", refused("9 TooManyFaults", 3), plan_with(**{**three, "liars": 2048}))
         for size, fault in BLANKS.items():
-            found = self.program.run("check", text=b" " * size)
-            self.expect(f"check of {size} blanks", refused(fault, 3), found)
+            self.expect(f"check of {size} blanks", refused(fault, 3), self.program.run("check", text=b" " * size))
 
 
 class Checkpoints(ProgramCases):
