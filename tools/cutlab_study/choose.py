@@ -66,10 +66,8 @@ ORDERS: dict[str, Callable[[Worst], tuple[float, ...]]] = {
     "right": lambda it: (-it.right.share, it.proposals.share, it.silent.share),
     "silent": lambda it: (it.silent.share, it.proposals.share, -it.right.share),
 }
-NARROW = (
-    "  H = K: one lost alert, or one observer that raises none, stops every proposal. This model loses no alert, so no "
-)
-NARROW += "number here shows it. Take at most H = K - 1."
+NARROW = "  H = K: one lost alert, or one observer that raises none, stops every proposal. "
+NARROW += "This model loses no alert, so no number here shows it. Take at most H = K - 1."
 
 
 def said_of(it: Worst) -> list[str]:
@@ -80,9 +78,8 @@ def choose(table: Table, limits: Limits, order: str, best: int) -> tuple[set[Pai
     """The best pairs for each number of rings, and what is said of them; where there are none, the nearest is."""
     pairs = grouped(table.failing, lambda it: it.cell[:3])
     if not pairs:
-        raise Refused(
-            f"{table.name}: it has only cells in which nobody fails, and no pair is better than another there"
-        )
+        why = "it has only cells in which nobody fails, and no pair is better than another there"
+        raise Refused(f"{table.name}: {why}")
     found, chosen = [worst_of(pair, lines) for pair, lines in pairs.items()], list[Worst]()
     for k in sorted({it.pair[0] for it in found}):
         # A pair with H below K comes before one with H = K, however they do.

@@ -164,10 +164,8 @@ def report(given: Words) -> list[str]:
 
 
 def main() -> int:
-    words = argparse.ArgumentParser(
-        prog="study", description="Exact shares, choices, comparisons and reports of studies."
-    )
-    words.epilog = "docs/GUIDE.md shows each. A file - is standard input."
+    words = argparse.ArgumentParser(prog="study", epilog="docs/GUIDE.md shows each. A file - is standard input.")
+    words.description = "Exact shares, choices, comparisons and reports of studies."
     commands = words.add_subparsers(required=True, metavar="COMMAND")
     for does, its in COMMANDS:
         one = commands.add_parser(does.__name__, help=does.__doc__, description=does.__doc__)

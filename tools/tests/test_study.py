@@ -146,13 +146,10 @@ class Tables(unittest.TestCase):
                     vary.pool([(one, csv), (second, csv)])
 
     def test_values_of_fields(self) -> None:
-        texts: dict[str, tuple[str, Any]] = {
-            "h": ("8,9", [8, 9]),
-            "implicit": ("true", True),
-            "dead": ("speak", "speak"),
-        }
-        for field, (text, value) in {**texts, "seed": ("0" * 64, "0" * 64)}.items():
-            self.assertEqual(vary.value_of(field, text), value)
+        for field, text in (("seed", "0" * 64), ("dead", "speak")):
+            self.assertEqual(vary.value_of(field, text), text)
+        self.assertEqual(vary.value_of("h", "8,9"), [8, 9])
+        self.assertEqual(vary.value_of("implicit", "true"), True)
 
     def test_differences(self) -> None:
         self.assertTrue(vary.differ(tables.share_of(10, 1000), tables.share_of(40, 1000)))

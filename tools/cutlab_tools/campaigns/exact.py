@@ -31,12 +31,8 @@ class SmallWorld:
             nodes, k = rng.randint(3, 7), rng.randint(1, 4)
             failed, low = rng.randint(0, min(3, nodes - 1)), rng.randint(1, k)
             self.plan: Plan = {"nodes": nodes, "implicit": rng.random() < 0.6, "dead": rng.choice(["silent", "speak"])}
-            self.plan |= {
-                "deaf": rng.randint(0, failed),
-                "liars": rng.choice([0, 0, 1]),
-                "links": rng.choice([0, 0, 1]),
-            }
-            self.plan |= {"seed": drawn_seed(rng), "version": 2}
+            self.plan |= {"deaf": rng.randint(0, failed), "liars": rng.choice([0, 0, 1])}
+            self.plan |= {"links": rng.choice([0, 0, 1]), "seed": drawn_seed(rng), "version": 2}
             self.layout = reference.Layout([rng.sample(range(nodes), nodes) for _ in range(k)])
             self.roles = reference.Roles(self.plan, failed, reference.Source(self.plan, 0), self.layout)
             self.edges = reference.alert_list(self.plan, self.layout, self.roles, k)

@@ -9,6 +9,8 @@ from ..repository import Repository
 
 FOLDER, MADE = "docs/completions", "Made by docs/completions/make."
 HELP = Command("help", "Print the help of a command", [], [])
+# What fish offers for an option by what it takes.
+FISH = {"folder": " -r -a '(__fish_complete_directories)'", "file": " -r -F", "value": " -x", "": ""}
 
 
 def bash(listed: list[Command]) -> dict[str, str]:
@@ -61,10 +63,7 @@ def fish(listed: list[Command]) -> Iterator[str]:
         when = f"complete -c cutlab -n '__fish_seen_subcommand_from {command.name}'"
         yield from ["", f"{when} -F"] if command.takes_files else [""]
         for it in command.options:
-            takes = {"folder": " -r -a '(__fish_complete_directories)'", "file": " -r -F", "value": " -x"}.get(
-                it.takes, ""
-            )
-            yield f"{when} -l {it.name}{takes} -d {fish_text(it.help)}"
+            yield f"{when} -l {it.name}{FISH[it.takes]} -d {fish_text(it.help)}"
         yield f"{when} -l help -d 'Print help'"
 
 

@@ -11,7 +11,7 @@ word, in the order of docs/statement/skeleton.md, which is prose with lines of t
 With --check it writes nothing, and fails where the page isn't that. It fails where the theorem cites a definition of a folder
 specs/inside: these say how a crate keeps its values, and are for its own clauses and proofs."""
 import re
-from typing import Iterable, Iterator, NamedTuple, Optional
+from typing import Iterable, Iterator, Optional
 
 from ..repository import Repository
 from . import NotMade
@@ -26,9 +26,7 @@ CONTRACT = r"((?:^ *///[^\n]*\n)*)^ *pub fn %s\b.*?\n(?= *{\n)"
 CLAUSE = re.compile(r"(?:ensures|requires)[^{]*\{(.*?)\}\s*(?=ensures|requires|$)", re.S)
 
 
-class Cited(NamedTuple):
-    module: str
-    name: str
+Cited = tuple[str, str]  # a module, and a name of it
 
 
 def without_comments(text: str) -> str:
@@ -57,7 +55,7 @@ class Uses:
                 raise NotMade(f"can't read: {line}")
             module, names, alias = found.groups()
             for own, other in re.findall(r"([^\s,]+)(?: as ([^\s,]+))?", names or ""):
-                self.names[other or own] = Cited(module, own)
+                self.names[other or own] = module, own
             if alias:
                 self.modules[alias] = module
 
@@ -65,7 +63,8 @@ class Uses:
         """What a token of this file's text stands for, if it is another file's."""
         head, _, rest = token.partition(".")
         found = self.names.get(token) or self.names.get(head)
-        return Cited(self.modules[head], rest.split(".")[0]) if not found and head in self.modules and rest else found
+        is_of_module = not found and head in self.modules and rest
+        return (self.modules[head], rest.split(".")[0]) if is_of_module else found
 
 
 class Spec:
@@ -201,7 +200,7 @@ class Page:
     def needs(self, command: str, *words: str) -> list[str]:
         closure = Closure(self.repository)
         for module, name in (word.split(":") for word in words):
-            closure.visit(Cited(module_of(module), name))
+            closure.visit((module_of(module), name))
         count, lines = closure.counts()
         return [f"Of these {count} definitions of {lines} lines are what `{command}` needs."]
 

@@ -19,9 +19,8 @@ def stale(place: Path, is_written: bool) -> list[str]:
     """The pictures that are drawn otherwise than they are stored, and those that no command draws."""
     drawn, stored = ({it.name: it.read_bytes() for it in folder.glob("*.svg")} for folder in (place, PICTURES))
     differing, lost = sorted(it for it in drawn if drawn[it] != stored.get(it)), sorted(set(stored) - set(drawn))
-    print(
-        f"studies: {len(drawn)} pictures are drawn, {len(differing)} otherwise than stored: {' '.join(differing) or 'none'}"
-    )
+    names = " ".join(differing) or "none"
+    print(f"studies: {len(drawn)} pictures are drawn, {len(differing)} otherwise than stored: {names}")
     if lost:
         print(f"studies: no command draws {' '.join(lost)}")
     for name in differing if is_written else []:
