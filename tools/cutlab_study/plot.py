@@ -53,11 +53,9 @@ def panel(table: Table, k: int, part: str) -> list[str]:
         places = grouped(of_f, lambda it: it.h - it.l if part == "conflicts" else it.l)
         sums = [(at, [sum(getattr(it, name) for it in its) for name in SUMS]) for at, its in places.items()]
         lines[f"F = {f}"] = points(sums, part, 1e-3)
-    if part == "conflicts":
-        scale, what = logarithmic("0.001", "0.001", "0.01", "0.1"), "Conflicts, % of those that proposed, by H - L"
-    else:
-        scale, what = f"unset logscale y\n{LINEAR}", "Silent, % of all receivers, by L"
-    return [scale, f'set title "K = {k}: {what}"', *curves(lines, False)]
+    whats = {"conflicts": "Conflicts, % of those that proposed, by H - L", "silent": "Silent, % of all receivers, by L"}
+    scale = logarithmic("0.001", "0.001", "0.01", "0.1") if part == "conflicts" else f"unset logscale y\n{LINEAR}"
+    return [scale, f'set title "K = {k}: {whats[part]}"', *curves(lines, False)]
 
 
 def draw(picture: str, commands: list[str], width: int, height: int) -> None:

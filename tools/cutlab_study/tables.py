@@ -88,8 +88,6 @@ class Line(NamedTuple):
 
 
 class Table(NamedTuple):
-    """A table, with the name by which it was given."""
-
     name: str
     lines: list[Line]
 

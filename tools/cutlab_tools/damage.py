@@ -90,13 +90,10 @@ def drawn_file(rng: random.Random, plan: Plan, slips: list[reference.Slip]) -> b
 
 
 class Write(NamedTuple):
-    """A write of a run into its file."""
-
     place: int
     written: bytes
 
     def put(self, held: bytes) -> bytes:
-        """The bytes of a file after this write."""
         held = held.ljust(self.place, b"\0")
         return held[: self.place] + self.written + held[self.place + len(self.written) :]
 

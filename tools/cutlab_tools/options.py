@@ -10,8 +10,6 @@ FOLDERS, FILES = {"DIR"}, {"FILE", "SOCKET", "OLD", "NEW", "OLD..", "PLAN"}
 
 
 class Argument(NamedTuple):
-    """A word, an option or a flag."""
-
     name: str
     value: str  # what it is called, if it has one
     help: str

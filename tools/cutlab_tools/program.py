@@ -4,7 +4,6 @@ import socket
 import subprocess
 import threading
 import time
-from dataclasses import dataclass
 from pathlib import Path
 from typing import Any, Iterable, NamedTuple, Union
 
@@ -22,13 +21,16 @@ class Ended(NamedTuple):
     status: int = 0
 
 
+def refused(fault: str, status: int = 4) -> Ended:
+    return Ended("", f"cutlab: fault {fault}\n", status)
+
+
 def end_of(child: Child[bytes], limit: float = 120) -> Ended:
     output, errors = child.communicate(timeout=limit)
     return Ended(output.decode(), errors.decode(), child.returncode)
 
 
-@dataclass(frozen=True)
-class Program:
+class Program(NamedTuple):
     """A program, and the folder in which it is run."""
 
     path: Path = PROGRAM

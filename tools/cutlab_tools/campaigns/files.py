@@ -9,7 +9,7 @@ from typing import Iterator
 from ..damage import Calls, Write, crash_image, drawn_file, drawn_slips
 from ..paths import reference
 from ..plans import Plan, drawn_plan, drawn_seed, drawn_words, slips_in, text_of, trials_in, trials_of, upgrade, work_of
-from ..program import Ended, Program
+from ..program import Ended, Program, refused
 from .campaign import Campaign
 
 
@@ -148,7 +148,7 @@ class Migrations(Campaign):
                 refusal = "46 Disagrees"
             except reference.Fault:
                 refusal = "17 BadSlip"
-            wanted = Ended("", f"cutlab: fault {refusal} {wrong + 1}\n", 4)
+            wanted = refused(f"{refusal} {wrong + 1}")
         (self.folder / "old.cut").write_bytes(reference.file_of(plan, slips))
         what = f"{json.dumps(plan)} with {slips}"
         self.expect_run(wanted, "migrate", "old.cut", "new.cut", text=text_of(plan), what=what)
@@ -226,13 +226,13 @@ class Shares(Campaign):
         again, empty, none, before = "again.cut", "empty.cut", "none.cut", new.read_bytes()
         (self.folder / empty).touch()
         text, full = self.text, [it for it in files if self.shares[it]]
-        self.expect_run(Ended("", "cutlab: fault 25 Held\n", 4), "join", new.name, *files, text=text)
+        self.expect_run(refused("25 Held"), "join", new.name, *files, text=text)
         if full:
             found, faults, status = self.program.run("join", again, *files, full[0], text=text)
             expected = ("", "cutlab: fault 17 BadSlip", 4)
             self.expect("a file that is joined twice", expected, (found, faults[:24], status))
         for last, fault in ((again, "20 Disk"), (none, "20 Disk"), (empty, "22 NoStudy")):
-            self.expect_run(Ended("", f"cutlab: fault {fault}\n", 4), "join", again, *files, last, text=text)
+            self.expect_run(refused(fault), "join", again, *files, last, text=text)
         named = f'cutlab: file {len(files) + 1}: "{empty}"\ncutlab: fault 22 NoStudy\n'
         self.expect_run(Ended("", named, 4), "join", "--which", again, *files, empty, text=text)
         written = {it.name for it in self.folder.iterdir() if it.stat().st_size or it.name == none}

@@ -27,10 +27,8 @@ STYLE = """
 
 
 class Crate(NamedTuple):
-    """A crate, with the crates of the repository that it stands on, and what it is for."""
-
     name: str
-    stands_on: list[str]
+    stands_on: list[str]  # the crates of the repository that it does
     purpose: str
 
 
@@ -58,7 +56,6 @@ def layers(repository: Repository) -> Layers:
 
 
 def places(listed: Layers) -> dict[str, int]:
-    """The number of each crate's layer."""
     return {crate.name: at for at, crates in enumerate(listed.values()) for crate in crates}
 
 

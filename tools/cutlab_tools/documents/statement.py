@@ -137,7 +137,6 @@ class Closure:
                 self.visit(cited)
 
     def follow(self, uses: Uses, text: str, spec: Spec | None = None) -> None:
-        """Adds all that a text cites."""
         for token in TOKEN.findall(without_comments(text)):
             head = token.split(".")[0]
             if used := uses.of(token):

@@ -31,7 +31,6 @@ class Cases(unittest.TestCase):
             self.assertEqual(wanted, found)
 
     def expect_run(self, wanted: Ended, *words: Word, text: bytes = b"") -> None:
-        """Compares how a command ends over a text."""
         found = self.program.run(*words, text=text)
         self.expect(f"{' '.join(map(str, words))} < {text.decode(errors='backslashreplace')}", wanted, found)
 

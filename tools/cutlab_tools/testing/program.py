@@ -14,7 +14,7 @@ from typing import Any, Sequence
 
 from ..paths import DATA, ROOT, reference
 from ..plans import SMALLEST, Plan, upgrade
-from ..program import Child, Ended, Program, Word, connect, end_of
+from ..program import Child, Ended, Program, Word, connect, end_of, refused
 from . import Cases
 
 # Tables that were worked out by hand, command lines with a mistake, and names of files as a line quotes them.
@@ -38,12 +38,9 @@ def plan_with(**fields: Any) -> bytes:
     return reference.canonical_text({**FIELDS, **fields})
 
 
-def line_of(fault: str) -> str:
-    return f"cutlab: fault {fault}\n"
-
-
-def refused(fault: str, status: int = 4) -> Ended:
-    return Ended("", line_of(fault), status)
+def named(file: str, fault: str) -> Ended:
+    """How a join ends with the fault of a file that it names."""
+    return Ended("", f"cutlab: file {file}\ncutlab: fault {fault}\n", 4)
 
 
 def limit_files(room: int) -> None:
@@ -77,7 +74,7 @@ class ProgramCases(Cases):
         """How a client ends, once one ends with this status and by none of the faults that pass."""
         for _ in range(1000):
             found = self.program.run("ask", "socket", text=PLAN)
-            if found.status == status and found.errors not in map(line_of, passing):
+            if found.status == status and found not in map(refused, passing):
                 break
             time.sleep(0.01)
         return found
@@ -123,7 +120,7 @@ class Studies(ProgramCases):
         output, errors, status = self.program.run("explain", text=PLAN)
         self.expect("explain", (0, "accepted\ncells 1\ntrials 2\nquorum 4\n", ""), (status, output[:35], errors))
         why = "refused: 2 NotObject\nfound an empty list; expected an object, in braces\n"
-        self.ends("explain", Ended(why, line_of("2 NotObject"), 3), b"[]")
+        self.ends("explain", refused("2 NotObject", 3)._replace(output=why), b"[]")
 
     def test_refusals(self) -> None:
         texts = {b"": "1 NotJson", b"[]": "2 NotObject", b'{"x":0}': "3 UnknownField", b"{}": "4 MissingField copies"}
@@ -270,8 +267,8 @@ class Machines(ProgramCases):
     def test_joins(self) -> None:
         self.file("empty.cut").touch()
         faults = {"none.cut": "20 Disk", "empty.cut": "22 NoStudy", "joined.cut": "20 Disk"}
-        none, empty, same = (Ended("", f'cutlab: file 2: "{name}"\n{line_of(it)}', 4) for name, it in faults.items())
-        first = none._replace(errors=none.errors.replace("file 2", "file 1"))
+        none, empty, same = (named(f'2: "{name}"', it) for name, it in faults.items())
+        first = named('1: "none.cut"', "20 Disk")
         self.ends("share 1/1 share.cut", "share 1 of 1: 2 of 2\n")
         self.ends("join joined.cut share.cut none.cut", refused("20 Disk"))
         self.ends("join --which joined.cut share.cut none.cut", none)
@@ -284,9 +281,8 @@ class Machines(ProgramCases):
         self.ends("join --which joined.cut share.cut joined.cut", same)
         self.expect("the files of the joins", ["empty.cut", "joined.cut", "share.cut"], self.names())
         for name, quoted in TABLES["quoted"]:
-            wanted = Ended("", f'cutlab: file 2: "{quoted}"\n{line_of("20 Disk")}', 4)
             found = self.program.run("join", "--which", "other.cut", "share.cut", name, text=PLAN)
-            self.expect(f"the line of {name!r}", wanted, found)
+            self.expect(f"the line of {name!r}", named(f'2: "{quoted}"', "20 Disk"), found)
 
     def files_of(self, plan: bytes, count: int) -> dict[str, int]:
         """Files with one slip each, of the first trials of a plan: the trial of each name."""
@@ -338,8 +334,6 @@ class Machines(ProgramCases):
 
 
 class Lines(ProgramCases):
-    """Words of the command line, and standard streams."""
-
     def test_words(self) -> None:
         for line, text in TABLES["helps"]:
             output, errors, status = self.program.run(*line.split())
@@ -359,8 +353,8 @@ class Lines(ProgramCases):
             with self.file("output").open("wb") as output:
                 how: dict[str, Any] = dict(stdout=output, stderr=subprocess.PIPE, restore_signals=False, timeout=120)
                 done = subprocess.run([self.path, word], input=PLAN, preexec_fn=partial(limit_files, room), **how)
-            found = done.returncode, done.stderr.decode(), self.size("output")
-            self.expect(f"{word} with room for {room} bytes", (4, line_of(f"31 Write {room}"), room), found)
+            found = done.stderr.decode(), done.returncode, self.size("output")
+            self.expect(f"{word} with room for {room} bytes", (*refused(f"31 Write {room}")[1:], room), found)
 
     def test_closed_streams(self) -> None:
         """Commands one of whose standard streams is closed where they begin: no file takes its place."""
