@@ -14,32 +14,12 @@ from .tables import read_table
 Words = argparse.Namespace
 Word = tuple[tuple[str, ...], dict[str, Any]]
 Does = Callable[[Words], Iterable[str]]
-COMMANDS: list[tuple[Does, tuple[Word, ...]]] = []
 PREMISE = "# Shares where every order of the alerts at a receiver is equally likely, and every alert arrives. "
 PREMISE += "That ChaCha8's draws behave so is what a comparison shows, and no proof says."
 
 
 def word(*names: str, about: str | None = None, **how: Any) -> Word:
     return names, {**how, "help": about}
-
-
-def command(*words: Word) -> Callable[[Does], Does]:
-    """Makes a function a command of its name, which prints the lines that are returned."""
-
-    def add(does: Does) -> Does:
-        COMMANDS.append((does, words))
-        return does
-
-    return add
-
-
-PLAN, TABLE = word("plan"), word("table")
-LIMITS = [
-    word("--conflicts", type=float, about="the greatest share of receivers in conflict, on the worst line"),
-    word("--silent", type=float, default=0.001, about="the greatest share of silent receivers (0.001)"),
-    word("--right", type=float, about="the least share of trials in which a quorum proposes exactly the failed ones"),
-]
-BY_ROLES = "exact shares by the roles of how many trials of each cell"
 
 
 def limits_of(given: Words) -> choosing.Limits:
@@ -62,12 +42,6 @@ def exact_line(it: shares.CellColumns) -> str:
     return ",".join([cell, *(f"{float(share):.6g}" for share in columns), str(it.trials)])
 
 
-@command(
-    PLAN,
-    word("--ladder", action="store_true", about="all pairs of H and L of its K and F, the rarest conflicts first"),
-    word("--beside", metavar="TABLE", about="set the plan's table beside the exact shares of conflicts"),
-    word("--trials", type=int, default=20, about=f"{BY_ROLES}, where roles matter (20)"),
-)
 def exact(given: Words) -> Iterator[str]:
     """Print the exact shares of a plan's cells, without a trial"""
     plan = read_plan(given.plan)
@@ -84,22 +58,11 @@ def exact(given: Words) -> Iterator[str]:
         yield from map(exact_line, shares.exact(plan, given.trials))
 
 
-@command(
-    TABLE,
-    word("--by", choices=sorted(choosing.ORDERS), default="conflicts", about="what the best pair has least or most of"),
-    word("--best", type=int, default=1, about="how many pairs for each number of rings (1)"),
-    *LIMITS,
-)
 def choose(given: Words) -> list[str]:
     """Say which watermarks do best in a table"""
     return choosing.choose(read_table(given.table), limits_of(given), given.by, given.best)[1]
 
 
-@command(
-    *(PLAN, word("field"), word("values", nargs="+")),
-    word("--set", nargs="+", default=[], metavar="FIELD=VALUE", about="other fields, for every run"),
-    word("--workers", type=int, about="the workers of each run; the program's default where it is not given"),
-)
 def vary(given: Words) -> Iterator[str]:
     """Run a plan once for each value of a field, and print one table"""
     plan, why = read_plan(given.plan), "FIELD=VALUE, of a field that the plan has"
@@ -111,28 +74,17 @@ def vary(given: Words) -> Iterator[str]:
     return varying.vary(plan, given.field, given.values, given.workers)
 
 
-@command(word("one"), word("other"))
 def compare(given: Words) -> Iterator[str]:
     """Say where two tables differ by more than chance"""
     return varying.compare(read_table(given.one), read_table(given.other))
 
 
-@command(word("pairs", nargs="+", metavar="PLAN=TABLE"))
 def pool(given: Words) -> list[str]:
     """Add up the tables of plans that differ in the seed alone"""
     pairs = [parts(it, "", "PLAN=TABLE, so that the plans can be compared") for it in given.pairs]
     return varying.pool(pairs).splitlines()
 
 
-@command(
-    TABLE,
-    word("-o", "--output", required=True, about="the picture: .svg, .png or .pdf"),
-    word("--exact", metavar="PLAN", about="draw the exact shares of its plan over F, and the table's on them"),
-    word("--along", metavar="COLUMN", about="draw along this column, not conflicts by H - L and silence by L"),
-    word("--of", choices=("conflicts", "silent"), about="which share, with --along (conflicts)"),
-    word("--each", metavar="COLUMN", about="a line for each value of this column, with --along (f)"),
-    word("--where", nargs="+", default=[], metavar="COLUMN=VALUE", about="only such lines, with --along"),
-)
 def plot(given: Words) -> list[str]:
     """Draw a table by gnuplot"""
     where = dict(parts(it, "--where ", "COLUMN=VALUE") for it in given.where)
@@ -148,12 +100,6 @@ def plot(given: Words) -> list[str]:
     return []
 
 
-@command(
-    *(PLAN, TABLE),
-    word("-o", "--output", default="-", about="the page; standard output where it is not given"),
-    word("--trials", type=int, default=5, about=f"{BY_ROLES} (5)"),
-    *LIMITS,
-)
 def report(given: Words) -> list[str]:
     """Make one page of a plan and its table, with pictures and the choice"""
     text = page(read_plan(given.plan), read_table(given.table), limits_of(given), given.trials)
@@ -163,11 +109,57 @@ def report(given: Words) -> list[str]:
     return []
 
 
+PLAN, TABLE = word("plan"), word("table")
+LIMITS = [
+    word("--conflicts", type=float, about="the greatest share of receivers in conflict, on the worst line"),
+    word("--silent", type=float, default=0.001, about="the greatest share of silent receivers (0.001)"),
+    word("--right", type=float, about="the least share of trials in which a quorum proposes exactly the failed ones"),
+]
+BY, BY_ROLES = "what the best pair has least or most of", "exact shares by the roles of how many trials of each cell"
+# The commands, each of which prints the lines that its function returns, with their words.
+COMMANDS: dict[Does, list[Word]] = {
+    exact: [
+        PLAN,
+        word("--ladder", action="store_true", about="all pairs of H and L of its K and F, the rarest conflicts first"),
+        word("--beside", metavar="TABLE", about="set the plan's table beside the exact shares of conflicts"),
+        word("--trials", type=int, default=20, about=f"{BY_ROLES}, where roles matter (20)"),
+    ],
+    choose: [
+        TABLE,
+        word("--by", choices=sorted(choosing.ORDERS), default="conflicts", about=BY),
+        word("--best", type=int, default=1, about="how many pairs for each number of rings (1)"),
+        *LIMITS,
+    ],
+    vary: [
+        *(PLAN, word("field"), word("values", nargs="+")),
+        word("--set", nargs="+", default=[], metavar="FIELD=VALUE", about="other fields, for every run"),
+        word("--workers", type=int, about="the workers of each run; the program's default where it is not given"),
+    ],
+    compare: [word("one"), word("other")],
+    pool: [word("pairs", nargs="+", metavar="PLAN=TABLE")],
+    plot: [
+        TABLE,
+        word("-o", "--output", required=True, about="the picture: .svg, .png or .pdf"),
+        word("--exact", metavar="PLAN", about="draw the exact shares of its plan over F, and the table's on them"),
+        word("--along", metavar="COLUMN", about="draw along this column, not conflicts by H - L and silence by L"),
+        word("--of", choices=("conflicts", "silent"), about="which share, with --along (conflicts)"),
+        word("--each", metavar="COLUMN", about="a line for each value of this column, with --along (f)"),
+        word("--where", nargs="+", default=[], metavar="COLUMN=VALUE", about="only such lines, with --along"),
+    ],
+    report: [
+        *(PLAN, TABLE),
+        word("-o", "--output", default="-", about="the page; standard output where it is not given"),
+        word("--trials", type=int, default=5, about=f"{BY_ROLES} (5)"),
+        *LIMITS,
+    ],
+}
+
+
 def main() -> int:
     words = argparse.ArgumentParser(prog="study", epilog="docs/GUIDE.md shows each. A file - is standard input.")
     words.description = "Exact shares, choices, comparisons and reports of studies."
     commands = words.add_subparsers(required=True, metavar="COMMAND")
-    for does, its in COMMANDS:
+    for does, its in COMMANDS.items():
         one = commands.add_parser(does.__name__, help=does.__doc__, description=does.__doc__)
         one.set_defaults(does=does)
         for names, how in its:
