@@ -17,7 +17,7 @@ import sys
 import tempfile
 import time
 from pathlib import Path
-from typing import Iterator, NamedTuple
+from typing import NamedTuple
 
 from ..commands import parser
 from ..paths import ROOT, reference
@@ -77,29 +77,24 @@ def instructions(program: Path, plan: Path) -> int:
     return int(found[1])
 
 
-def slower(figures: dict[str, int], found: dict[str, int]) -> Iterator[str]:
-    """The plans that take more instructions than their figures say, and those without a figure, a line for each."""
-    for name, count in found.items():
-        if name not in figures:
-            yield f"{name}: it has no figure in bench/figures.json: bench/run --write keeps one"
-        elif (more := count / figures[name] - 1) > TOLERANCE:
-            yield f"{name}: slower by {100 * more:.1f} %: {count} instructions, {figures[name]} in bench/figures.json"
-
-
 def compare(program: Path, is_written: bool) -> int:
     if not shutil.which("valgrind"):
         print("\nvalgrind is not installed, so nothing is compared with bench/figures.json")
         return 0
     figures: dict[str, int] = json.loads(FIGURES.read_text()) if FIGURES.exists() else {}
-    found: dict[str, int] = {}
+    found, lines = dict[str, int](), list[str]()
     print(f"\n{'plan':16}{'instructions':>16}{'figure':>16}")
-    for plan in COUNTED:
-        count = found[plan.name] = instructions(program, plan)
-        print(f"{plan.name:16}{count:>16}{figures.get(plan.name, 'none'):>16}", flush=True)
+    for name, plan in ((plan.name, plan) for plan in COUNTED):
+        count = found[name] = instructions(program, plan)
+        print(f"{name:16}{count:>16}{figures.get(name, 'none'):>16}", flush=True)
+        if name not in figures:
+            lines.append(f"{name}: it has no figure in bench/figures.json: bench/run --write keeps one")
+        elif (more := count / figures[name] - 1) > TOLERANCE:
+            both = f"{count} instructions, {figures[name]} in bench/figures.json"
+            lines.append(f"{name}: slower by {100 * more:.1f} %: {both}")
     if is_written:
         FIGURES.write_text(json.dumps(found, indent=1, sort_keys=True) + "\n")
         return 0
-    lines = list(slower(figures, found))
     print("\n".join(lines) or f"of {len(found)} plans none is slower by more than {100 * TOLERANCE:.0f} %")
     return int(bool(lines))
 

@@ -353,8 +353,8 @@ class Lines(ProgramCases):
             with self.file("output").open("wb") as output:
                 how: dict[str, Any] = dict(stdout=output, stderr=subprocess.PIPE, restore_signals=False, timeout=120)
                 done = subprocess.run([self.path, word], input=PLAN, preexec_fn=partial(limit_files, room), **how)
-            found = done.stderr.decode(), done.returncode, self.size("output")
-            self.expect(f"{word} with room for {room} bytes", (*refused(f"31 Write {room}")[1:], room), found)
+            found = Ended("", done.stderr.decode(), done.returncode), self.size("output")
+            self.expect(f"{word} with room for {room} bytes", (refused(f"31 Write {room}"), room), found)
 
     def test_closed_streams(self) -> None:
         """Commands one of whose standard streams is closed where they begin: no file takes its place."""
@@ -414,11 +414,8 @@ class Servers(ProgramCases):
 
     def test_bad_servers(self) -> None:
         self.file("plain").touch()
-        for words, fault in (
-            ("none/socket", "43 Read"),
-            ("socket --dir plain", "20 Disk"),
-            ("socket --dir none", "20 Disk"),
-        ):
+        faults = {"none/socket": "43 Read", "socket --dir plain": "20 Disk", "socket --dir none": "20 Disk"}
+        for words, fault in faults.items():
             self.ends(f"serve {words} --workers 2 --sessions 1 --studies 2", refused(fault), b"")
         self.expect("the files that they leave", ["plain"], self.names())
 
