@@ -35,12 +35,8 @@ class Fault(Exception):
     # fmt: on
 
     def __init__(self, number: int, carried: object = None) -> None:
-        super().__init__(number, carried)
+        super().__init__(f"cutlab: fault {number} {self.NAMES[number]}" + ("" if carried is None else f" {carried}"))
         self.number, self.carried = number, carried
-
-    def __str__(self) -> str:
-        tail = "" if self.carried is None else f" {self.carried}"
-        return f"cutlab: fault {self.number} {self.NAMES[self.number]}{tail}"
 
 
 # ---- plans

@@ -14,8 +14,6 @@ TERMINALS = {
     ".pdf": "pdfcairo size {inches_wide}in,{inches_high}in",
 }
 COLOURS = ("#000000", "#c03000", "#2060c0", "#808080", "#208020", "#8020a0", "#b08000", "#009090")
-# A logarithmic scale of percents, at whose foot stands what is none, from a mark on; and a linear one.
-LOGARITHMIC = 'set logscale y\nset yrange [{}:100]\nset ytics ("none" {}, {}, "1" 1, "10" 10, "100" 100)'
 LINEAR = "set yrange [-3:103]\nset ytics 20"
 # The points of a line: at a place, a share in percent; and the sums of which shares are drawn.
 Points = list[tuple[int, float]]
@@ -23,7 +21,9 @@ SUMS = ("receivers", "silent", "conflicts")
 
 
 def logarithmic(low: str, foot: str, *marks: str) -> str:
-    return LOGARITHMIC.format(low, foot, ", ".join(f'"{it}" {it}' for it in marks))
+    """A scale of percents, at whose foot stands what is none."""
+    shown = ", ".join(f'"{it}" {it}' for it in (*marks, "1", "10", "100"))
+    return f'set logscale y\nset yrange [{low}:100]\nset ytics ("none" {foot}, {shown})'
 
 
 def points(places: Iterable[tuple[int, list[int]]], part: str, foot: float) -> Points:

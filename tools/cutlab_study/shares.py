@@ -126,7 +126,7 @@ def unreported_then_stable(need: Need, l: int) -> tuple[tuple[tuple[int, int], i
     found: Surface = Counter()
     for (a, c, d, e), change in table.items():
         found[a + d, a + d + c + e] += choices(outer, a, c) * choices(inner, d, e) * change
-    return tuple((key, value) for key, value in found.items() if value)
+    return tuple(it for it in found.items() if it[1])
 
 
 @lru_cache(maxsize=4096)
@@ -169,10 +169,6 @@ class Proposed(NamedTuple):
 
 def below(counts: Counts) -> Iterator[Counts]:
     return product(*(range(count + 1) for count in counts))
-
-
-def ways_to_choose(numbers: Counts, counts: Counts) -> int:
-    return prod(map(comb, numbers, counts))
 
 
 class Shares:
@@ -218,7 +214,7 @@ class Shares:
             if not earlier:
                 continue
             rest = tuple(count - its for count, its in zip(members, part))
-            needs, ways = self.needs(rest, members), ways_to_choose(members, part)
+            needs, ways = self.needs(rest, members), prod(map(comb, members, part))
             if needs not in self.sums:
                 self.sums[needs] = self.integrals(needs)
             for b, its in self.sums[needs].items():
@@ -245,4 +241,4 @@ class Shares:
             )
             share = Fraction(total, common * factorial(max(density)))
             if share:
-                yield Proposed(members, ways_to_choose(self.numbers, members), share)
+                yield Proposed(members, prod(map(comb, self.numbers, members)), share)

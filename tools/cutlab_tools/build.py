@@ -15,8 +15,6 @@ from typing import Iterable
 from .commands import parser
 from .paths import PROGRAM, ROOT, copy, require
 
-PARTS = ("src", "specs", "proofs", "data", "args", "stdin", "stdout", "status")
-
 
 def dependencies() -> dict[str, list[str]]:
     """What each crate of the repository stands on, by crates.txt."""
@@ -33,7 +31,8 @@ def needed(below: dict[str, list[str]], name: str) -> set[str]:
 
 
 def copy_crates(place: Path, below: dict[str, list[str]], crates: set[str]) -> None:
-    for path in (ROOT / "crates" / crate / part for crate in crates for part in PARTS):
+    parts = "src specs proofs data args stdin stdout status".split()
+    for path in (ROOT / "crates" / crate / part for crate in crates for part in parts):
         for file in (path, *path.rglob("*")):
             if file.is_file():
                 copy(file, place / file.relative_to(ROOT))

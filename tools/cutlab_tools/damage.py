@@ -80,8 +80,7 @@ def drawn_file(rng: random.Random, plan: Plan, slips: list[reference.Slip]) -> b
         at = rng.randrange(len(held))
         return held[:at] + bytes([held[at] ^ 1 << rng.randrange(8)]) + held[at + 1 :]
     if way == 2:
-        more = rng.randint(1, 300)
-        return held + rng.getrandbits(8 * more).to_bytes(more, "little")
+        return held + rng.randbytes(rng.randint(1, 300))
     if way == 3:
         return reference.file_of({**plan, "repeats": plan["repeats"] + 1}, slips)
     if way == 4:

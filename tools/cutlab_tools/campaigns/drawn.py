@@ -65,8 +65,7 @@ class Explanations(Campaign):
         self.check_never_right(plan, layout, lines)
         keys = sum(keys_in(plan, layout, trial) for trial in range(trials_of(plan)))
         most = number_after(lines, "keys drawn: at most")
-        is_most = most is not None and keys <= most
-        self.require(is_most, f"{keys} keys are drawn, at most {most} by explain: {text.decode()}")
+        self.require(keys <= (most or 0), f"{keys} keys are drawn, at most {most} by explain: {text.decode()}")
         self.program.run("run", "--checkpoint", "study.cut", text=text)
         size = (self.folder / "study.cut").stat().st_size
         self.expect(text.decode(), size, number_after(lines, "checkpoint: at most"))

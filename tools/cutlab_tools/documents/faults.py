@@ -1,9 +1,7 @@
-"""Checks what says a fault besides the list of `cut_faults`: docs/faults
+"""Checks what says a fault besides the list of `cut_faults`: docs/faults. What differs is printed, and the status is then 1.
 
 - The list of docs/FORMATS.md has its numbers, names and order, and the exit status where a command can end with the fault.
-- The crates' faults, each of which stands for one of the list, stand for that of the same name, but for those of `RENAMED`;
-  and each of the list stands for some fault of a crate.
-What differs is printed, and the status is then 1."""
+- Each of the crates' faults stands for that of the same name, but for those of `RENAMED`; each of the list for some fault."""
 import re
 from itertools import zip_longest
 from typing import Iterator
