@@ -105,18 +105,15 @@ class Kills(Campaign):
             self.expect(f"the table of {text.decode()}", reference.table(plan), whole)
         share = "share 1/1", f"share 1 of 1: {trials_of(plan)} of {trials_of(plan)}\n"
         command, answer = rng.choice([("run --checkpoint", whole), share])
-        self.run_to_end(rng, [*command.split(), "study.cut"], text, answer, longest)
-        self.expect_run(Ended(whole), "run", "--checkpoint", "study.cut", text=text, what="the table at the end")
-        slips_in(plan, (self.folder / "study.cut").read_bytes())
-
-    def run_to_end(self, rng: random.Random, command: list[str], text: bytes, answer: str, longest: float) -> None:
         for _ in range(200):
-            words = [*command, *drawn_words(rng, 4, 20)]
+            words = [*command.split(), "study.cut", *drawn_words(rng, 4, 20)]
             found = self.program.run_killed(*words, text=text, seconds=rng.random() * longest)
             self.expect("what was written is a prefix of the answer", answer[: len(found.output)], found.output)
             self.expect("what was reported", "", found.errors)
             if found.status == 0:
-                return
+                break
+        self.expect_run(Ended(whole), "run", "--checkpoint", "study.cut", text=text, what="the table at the end")
+        slips_in(plan, (self.folder / "study.cut").read_bytes())
 
 
 def true_slips(rng: random.Random, plan: Plan) -> list[reference.Slip]:

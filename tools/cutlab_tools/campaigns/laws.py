@@ -39,11 +39,6 @@ def laws_of_later(x: Line, y: Line) -> dict[str, object]:
     }
 
 
-def is_of_crashes_alone(plan: Plan) -> bool:
-    fails_by_crash = plan["faults"] == "crash" if plan["version"] == 1 else plan["deaf"] == 0
-    return bool(fails_by_crash and plan["liars"] == plan["links"] == 0)
-
-
 class Laws(Campaign):
     def case(self, rng: random.Random) -> None:
         plan = drawn_plan(rng, most_work=4_000_000)
@@ -72,7 +67,8 @@ class Laws(Campaign):
         nodes, quorum = plan["nodes"], reference.quorum(plan["nodes"])
         for said, holds in laws_of(x, nodes, quorum).items():
             self.require(holds, f"{said}: {what}")
-        if not is_of_crashes_alone(plan) or x.f != 1:
+        fails_by_crash = plan["faults"] == "crash" if plan["version"] == 1 else plan["deaf"] == 0
+        if x.f != 1 or not fails_by_crash or plan["liars"] or plan["links"]:
             return
         quorums = x.trials if nodes >= 5 else 0
         found = x.conflicts, x.silent, x.extra, x.votes, x.decided, x.right

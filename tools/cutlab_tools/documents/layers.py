@@ -36,12 +36,6 @@ class Crate(NamedTuple):
 Layers = dict[str, list[Crate]]
 
 
-def purpose(repository: Repository, crate: str) -> str:
-    """The first sentence of a crate's README, without marks."""
-    text = repository.read(f"crates/{crate}/README.md").split("\n\n")[1]
-    return re.sub(r"`", "", re.split(r"(?<=\.) ", text.replace("\n", " "))[0])
-
-
 def layers(repository: Repository) -> Layers:
     found: Layers = {}
     lines = [line for line in repository.read(CRATES).split("\n") if line]
@@ -51,7 +45,9 @@ def layers(repository: Repository) -> Layers:
             crates = found[line[2:]] = []
         else:
             name, _, below = line.partition(":")
-            crates.append(Crate(name, [it for it in below.split() if it in ours], purpose(repository, name)))
+            about = repository.read(f"crates/{name}/README.md").split("\n\n")[1].replace("\n", " ").replace("`", "")
+            purpose, *_ = re.split(r"(?<=\.) ", about)
+            crates.append(Crate(name, [it for it in below.split() if it in ours], purpose))
     return found
 
 
@@ -105,12 +101,6 @@ def picture(listed: Layers) -> str:
     return "\n".join([opening, f"<style>{STYLE}</style>", f"<defs>{head}</defs>", *drawn, "</svg>"]) + "\n"
 
 
-def paged(repository: Repository) -> list[tuple[str, list[str]]]:
-    """The layers of the page with their crates."""
-    parts = re.split(r"^### ", repository.read(PAGE).split("\n## ")[1], flags=re.M)[1:]
-    return [(it.split("\n")[0], re.findall(r"^\| `(\w+)` \|", it, flags=re.M)) for it in parts]
-
-
 def made(repository: Repository) -> dict[str, str]:
     return {PICTURE: picture({name: its for name, its in layers(repository).items() if name not in BESIDE})}
 
@@ -123,7 +113,9 @@ def differences(repository: Repository) -> Iterator[str]:
         above = (it for it in crate.stands_on if place[it] > place[crate.name])
         yield from (f"{CRATES}: {crate.name} stands on {it}, which is above" for it in above)
     wanted = [(name, [crate.name for crate in crates]) for name, crates in listed.items() if name != "Tests"]
-    for there, here in zip(paged(repository) + [("", [])] * len(wanted), wanted):
+    parts = re.split(r"^### ", repository.read(PAGE).split("\n## ")[1], flags=re.M)[1:]
+    paged = [(it.split("\n")[0], re.findall(r"^\| `(\w+)` \|", it, flags=re.M)) for it in parts]
+    for there, here in zip(paged + [("", [])] * len(wanted), wanted):
         if there != here:
             yield f"{PAGE}: {there[0] or 'nothing'} with {', '.join(there[1])}: {CRATES} has {here[0]} with {', '.join(here[1])}"
 

@@ -15,12 +15,6 @@ def terms(repository: Repository) -> Iterator[tuple[str, str, str]]:
         yield from ((heading, term, home.strip("`")) for term, _, home in repository.rows(GLOSSARY, heading))
 
 
-def is_used(term: str, text: str) -> bool:
-    """Whether a term, without what stands in brackets after it, is a word of a text in lower case, in singular or plural."""
-    word = re.escape(re.sub(r" \(.*", "", term).lower()).replace("\\ ", r"\s+")
-    return bool(re.search(rf"(?<!\w){word}(e?s)?(?!\w)", text))
-
-
 def differences(repository: Repository) -> Iterator[str]:
     texts = tracked_files("*.rt", "*.antt", "*.md")
     text = "\n".join(repository.read(it) for it in texts if it != GLOSSARY).lower()
@@ -32,7 +26,9 @@ def differences(repository: Repository) -> Iterator[str]:
             yield f"{GLOSSARY}: {term}: it stands after {before[1]}"
         if term in seen:
             yield f"{GLOSSARY}: {term}: it has two meanings"
-        if not is_used(term, text):
+        # A term is used without what stands in brackets after it, in singular or plural.
+        word = re.escape(re.sub(r" \(.*", "", term).lower()).replace("\\ ", r"\s+")
+        if not re.search(rf"(?<!\w){word}(e?s)?(?!\w)", text):
             yield f"{GLOSSARY}: {term}: nothing uses it"
         seen.add(term)
         before = (heading, term)
