@@ -16,12 +16,6 @@ from .commands import parser
 from .paths import PROGRAM, ROOT, copy, require
 
 
-def dependencies() -> dict[str, list[str]]:
-    """What each crate of the repository stands on, by crates.txt."""
-    lines = [line.partition("#")[0].split(":") for line in (ROOT / "crates.txt").read_text().split("\n")]
-    return {line[0].split()[0]: line[1].split() for line in lines if len(line) > 1}
-
-
 def needed(below: dict[str, list[str]], name: str) -> set[str]:
     """A crate and all that it stands on but the kit's crates."""
     found = {name}
@@ -78,7 +72,9 @@ def prove(place: Path, crates: set[str]) -> bool:
 def main() -> int:
     parser(__doc__, "").parse_args()
     require("rt", "build", "README.md")
-    below, built = dependencies(), PROGRAM.relative_to(ROOT)
+    built = PROGRAM.relative_to(ROOT)
+    lines = [line.partition("#")[0].split(":") for line in (ROOT / "crates.txt").read_text().split("\n")]
+    below = {line[0].split()[0]: line[1].split() for line in lines if len(line) > 1}
     crates = needed(below, "cutlab")
     with tempfile.TemporaryDirectory() as folder:
         copy_crates(Path(folder), below, crates)

@@ -28,17 +28,6 @@ def laws_of(x: Line, nodes: int, quorum: int) -> dict[str, object]:
     }
 
 
-def laws_of_later(x: Line, y: Line) -> dict[str, object]:
-    """What holds of two lines, the second of which is of receivers that wait longer."""
-    return {
-        "other receivers": y.receivers == x.receivers,
-        "a new conflict": y.conflicts <= x.conflicts,
-        "a silence ends": x.silent <= y.silent,
-        "an extra is gone": x.extra + x.silent <= y.extra + y.silent,
-        "a proposal comes sooner": y.silent > 0 or not hasattr(x, "settled") or x.settled <= y.settled,
-    }
-
-
 class Laws(Campaign):
     def case(self, rng: random.Random) -> None:
         plan = drawn_plan(rng, most_work=4_000_000)
@@ -82,5 +71,12 @@ class Laws(Campaign):
         sooner, later = self.lines_of(plan), self.lines_of(other)
         self.require(len(sooner) == len(later), f"as many lines: {json.dumps(plan)}")
         for x, y in zip(sooner, later):
-            for said, holds in laws_of_later(x, y).items():
+            laws = {
+                "other receivers": y.receivers == x.receivers,
+                "a new conflict": y.conflicts <= x.conflicts,
+                "a silence ends": x.silent <= y.silent,
+                "an extra is gone": x.extra + x.silent <= y.extra + y.silent,
+                "a proposal comes sooner": y.silent > 0 or not hasattr(x, "settled") or x.settled <= y.settled,
+            }
+            for said, holds in laws.items():
                 self.require(holds, f"{said}: {x} of {json.dumps(plan)}, then {y} of {json.dumps(other)}")

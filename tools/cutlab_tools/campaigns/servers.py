@@ -99,11 +99,21 @@ class Restarts(Campaign):
         text = text_of({**plan, "repeats": rng.randint(1, 20) * plan["repeats"]})
         whole = self.table_of(text)
         for _ in range(rng.randint(1, 6)):
-            output, errors, status = self.cut_off(rng, text)
+            with self.server(rng):
+                client = self.program.start("ask", "s", text=text)
+                time.sleep(rng.random() * 0.1)
+            output, errors, status = end_of(client)
             self.expect("what was sent is a prefix of the table", whole[: len(output)], output)
             self.require(status in (0, 4), f"the status after {errors!r}")
             self.require(status != 0 or output == whole, "all of it where the client ended well")
-        self.expect("the table at the end", Ended(whole), self.served(rng, text))
+        with self.server(rng) as server:
+            for _ in range(1000):  # (it may not listen at its socket yet)
+                found = end_of(self.program.start("ask", "s", text=text))
+                if found != refused("43 Read"):
+                    break
+                time.sleep(0.005)
+            server.wait(60)
+        self.expect("the table at the end", Ended(whole), found)
         kept = list(self.folder.glob("*.cut"))
         self.expect("how many studies are kept", 1, len(kept))
         slips_in(reference.plan_of(text), kept[0].read_bytes())
@@ -123,24 +133,6 @@ class Restarts(Campaign):
             server.kill()
             end_of(server, 60)
             path.unlink(missing_ok=True)
-
-    def cut_off(self, rng: random.Random, text: bytes) -> Ended:
-        """What a client was sent by a server that is killed after some time."""
-        with self.server(rng):
-            client = self.program.start("ask", "s", text=text)
-            time.sleep(rng.random() * 0.1)
-        return end_of(client)
-
-    def served(self, rng: random.Random, text: bytes) -> Ended:
-        """What a client was sent by a server that lasts, once it listens at its socket."""
-        with self.server(rng) as server:
-            for _ in range(1000):
-                found = end_of(self.program.start("ask", "s", text=text))
-                if found != refused("43 Read"):
-                    break
-                time.sleep(0.005)
-            server.wait(60)
-        return found
 
 
 class Session:

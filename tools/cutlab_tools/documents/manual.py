@@ -36,14 +36,11 @@ def command_lines(command: Command) -> Iterator[str]:
         yield from (".PP", roff(line)) if line and not line.startswith("See ") else ()
 
 
-def sections(repository: Repository) -> dict[str, str]:
-    """The sections of the include, each of which begins with a line of its name in brackets."""
-    parts = re.split(r"^\[([A-Z ]+)\]\n", repository.read(INCLUDE), flags=re.M)
-    return dict(zip(parts[1::2], (it.strip("\n") for it in parts[2::2])))
-
-
 def made(repository: Repository) -> dict[str, str]:
-    listed, included = commands(repository), sections(repository)
+    listed = commands(repository)
+    # Each section of the include begins with a line of its name in brackets.
+    _, *given = re.split(r"^\[([A-Z ]+)\]\n", repository.read(INCLUDE), flags=re.M)
+    included = dict(zip(given[::2], (it.strip("\n") for it in given[1::2])))
     about, version = (repository.read(f"$ cutlab --{it}").split("\n")[0] for it in ("help", "version"))
     if not listed or "NAME" in included:
         raise NotMade("the help lists no commands, or the include has what is made")
