@@ -34,9 +34,8 @@ TESTED = "cut_command_line_tests"
 # Checks of documents by the sources alone, and by what the program prints.
 BY_SOURCES = ["docs/statement/make --check", "docs/layers/make --check", "docs/words", "docs/faults"]
 BY_PROGRAM = ["docs/schema", "docs/manual/make --check", "docs/completions/make --check", "docs/refuses"]
-# What looks at the tools, where it is installed, and their tests.
+# What looks at the tools, where it is installed.
 TOOLS = ["mypy --cache-dir=/dev/null", "black --check --quiet ."]
-UNITS = [sys.executable, "-m", "unittest", "discover", "tools/tests"]
 # How a part's output says how many cases passed and failed, or were tried and different.
 RUST_TESTS, PYTHON_TESTS = r"^test result: .*?(\d+) passed; (\d+) failed", r"^Ran (\d+)() tests"
 TRIED = r"(\d+) tried, (\d+) different\n\Z"
@@ -113,7 +112,7 @@ def timed(run: Part) -> Result:
 def before() -> dict[str, Part]:
     """The parts that need no program, by their names."""
     test = partial(part, "rt", "try", "--test", counts=RUST_TESTS, cwd=ROOT / "crates" / TESTED)
-    units = partial(part, *UNITS, counts=PYTHON_TESTS)
+    units = partial(part, sys.executable, "-m", "unittest", "discover", "tools/tests", counts=PYTHON_TESTS)
     parts: dict[str, Part] = {f"tests of {TESTED}": test, "layout": layout, "tests of tools": units}
     for name, *more in map(str.split, TOOLS):
         missing = partial(Result, 0, 0, f"{name} is not installed, so the tools were not checked by it")

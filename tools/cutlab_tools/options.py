@@ -54,9 +54,3 @@ def commands(repository: Repository) -> list[Command]:
         about, *lines = repository.read(f"$ cutlab {name} --help").split("\n")
         found.append(Command(name, about, arguments(lines), lines))
     return found
-
-
-def range_taken(repository: Repository, command: str, option: Argument) -> tuple[str, str]:
-    """The numbers that an option takes, as the program says where it refuses one."""
-    found = re.search(r"0 is not in (\d+)\.\.=(\d+)", repository.read(f"$ cutlab {command} --{option.name} 0"))
-    return (found[1], found[2]) if found else ("?", "?")

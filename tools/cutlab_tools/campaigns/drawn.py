@@ -62,16 +62,6 @@ class Explanations(Campaign):
         lines, errors, status = self.program.run("explain", text=text)
         self.expect(f"explain < {text.decode()}", ("accepted", "", 0), (lines.split("\n")[0], errors, status))
         self.expect(text.decode(), sizes(plan), "\n".join([*lines.split("\n")[1:4], ""]))
-        self.check_never_right(plan, layout, lines)
-        keys = sum(keys_in(plan, layout, trial) for trial in range(trials_of(plan)))
-        most = number_after(lines, "keys drawn: at most")
-        self.require(keys <= (most or 0), f"{keys} keys are drawn, at most {most} by explain: {text.decode()}")
-        self.program.run("run", "--checkpoint", "study.cut", text=text)
-        size = (self.folder / "study.cut").stat().st_size
-        self.expect(text.decode(), size, number_after(lines, "checkpoint: at most"))
-
-    def check_never_right(self, plan: Plan, layout: reference.Layout, lines: str) -> None:
-        """Compares the counts of these cells, and tries that no trial of one is right."""
         cells = len(reference.cells(plan))
         for start, numbers in never_right(plan).items():
             counts = [int(it) for it in re.findall(rf"^{start}: 0 in (\d+) of {cells} cells, ", lines, re.M)]
@@ -79,6 +69,12 @@ class Explanations(Campaign):
             for number in set(numbers):
                 sums = reference.piece_sums(plan, layout, number * plan["repeats"], plan["repeats"])
                 self.require(not any(sums[it] for it in start.split(" and ")), f"no trial of cell {number} is {start}")
+        keys = sum(keys_in(plan, layout, trial) for trial in range(trials_of(plan)))
+        most = number_after(lines, "keys drawn: at most")
+        self.require(keys <= (most or 0), f"{keys} keys are drawn, at most {most} by explain: {text.decode()}")
+        self.program.run("run", "--checkpoint", "study.cut", text=text)
+        size = (self.folder / "study.cut").stat().st_size
+        self.expect(text.decode(), size, number_after(lines, "checkpoint: at most"))
 
 
 def large_plan(rng: random.Random) -> Plan:

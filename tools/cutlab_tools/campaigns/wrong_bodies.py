@@ -49,11 +49,6 @@ class WrongBody(NamedTuple):
         (place / self.file).write_text(text)
 
 
-def listed() -> list[WrongBody]:
-    rows = json.loads((DATA / "wrong_bodies.json").read_text())
-    return [WrongBody(it["part"], Path(it["file"]), it["changes"], [it["campaign"]]) for it in rows]
-
-
 def edit_of(path: Path) -> WrongBody:
     """An edit that must fail."""
     said = {word: re.findall(f"^{word}: (.*)", path.read_text(), re.M) for word in ("file", "old", "new")}
@@ -123,7 +118,9 @@ def main() -> int:
     given = words.parse_args()
     require("rt", "wrong_bodies")
     edits = all_edits() if given.all else [it.resolve() for it in given.edits]
-    bodies, counts = [edit_of(it) for it in edits] or listed(), Counter[str]()
+    rows, counts = json.loads((DATA / "wrong_bodies.json").read_text()), Counter[str]()
+    listed = [WrongBody(it["part"], Path(it["file"]), it["changes"], [it["campaign"]]) for it in rows]
+    bodies = [edit_of(it) for it in edits] or listed
     last = time.monotonic() + 60 * given.minutes
     with ThreadPoolExecutor(given.jobs) as pool:
         for body, found in zip(bodies, pool.map(lambda it: attempt(it, given.seconds, last), bodies)):

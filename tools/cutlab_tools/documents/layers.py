@@ -66,21 +66,17 @@ def arrows(listed: Layers) -> Iterator[tuple[int, int]]:
         yield from ((at, other) for other in sorted(below) if not any(other in reached[it] for it in below))
 
 
-def box(crate: Crate, x: int, y: int, height: int) -> Iterator[str]:
-    yield f'<rect class="box" x="{x}" y="{y}" width="{BOX}" height="{height}" rx="4"/>'
-    yield f'<text class="crate" x="{x + 8}" y="{y + 17}">{crate.name}</text>'
-    for at, line in enumerate(textwrap.wrap(crate.purpose, LETTERS)):
-        yield f'<text x="{x + 8}" y="{y + 34 + LINE * at}">{html.escape(line, quote=False)}</text>'
-
-
 def band(name: str, crates: list[Crate], top: int) -> tuple[int, list[str]]:
     """A layer's band from a height on: the height at which it ends, and what is drawn."""
     drawn, y = [f'<text class="layer" x="{LEFT + 10}" y="{top + 20}">{name}</text>'], top + 30
     for at in range(0, len(crates), IN_A_ROW):
         row = crates[at : at + IN_A_ROW]
         height = 28 + LINE * max(len(textwrap.wrap(it.purpose, LETTERS)) for it in row)
-        for column, crate in enumerate(row):
-            drawn += box(crate, LEFT + 10 + column * (BOX + GAP), y, height)
+        for crate, x in zip(row, range(LEFT + 10, WIDTH, BOX + GAP)):
+            drawn.append(f'<rect class="box" x="{x}" y="{y}" width="{BOX}" height="{height}" rx="4"/>')
+            drawn.append(f'<text class="crate" x="{x + 8}" y="{y + 17}">{crate.name}</text>')
+            for down, line in enumerate(textwrap.wrap(crate.purpose, LETTERS)):
+                drawn.append(f'<text x="{x + 8}" y="{y + 34 + LINE * down}">{html.escape(line, quote=False)}</text>')
         y += height + GAP
     return y, [f'<rect class="band" x="{LEFT}" y="{top}" width="{WIDTH - LEFT}" height="{y - top}" rx="6"/>', *drawn]
 

@@ -4,7 +4,7 @@ range in the help is compared with what the program takes, as it says where it r
 import re
 from typing import Iterator
 
-from ..options import Command, commands, range_taken
+from ..options import Command, commands
 from ..repository import Repository
 from . import NotMade
 
@@ -58,7 +58,9 @@ def differences(repository: Repository) -> Iterator[str]:
     """The options whose help names another range than the program takes."""
     for command in commands(repository):
         for option in (it for it in command.options if it.takes == "value"):
-            low, high = range_taken(repository, command.name, option)
+            refusal = repository.read(f"$ cutlab {command.name} --{option.name} 0")
+            found = re.search(r"0 is not in (\d+)\.\.=(\d+)", refusal)
+            low, high = found.groups() if found else ("?", "?")
             if not re.search(rf" from {low} to {high}(?!\d)", option.help):
                 yield f"the help: {command.name} --{option.name} takes {low} to {high}: {option.help}"
 

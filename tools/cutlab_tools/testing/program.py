@@ -284,21 +284,17 @@ class Machines(ProgramCases):
             found = self.program.run("join", "--which", "other.cut", "share.cut", name, text=PLAN)
             self.expect(f"the line of {name!r}", named(f'2: "{quoted}"', "20 Disk"), found)
 
-    def files_of(self, plan: bytes, count: int) -> dict[str, int]:
-        """Files with one slip each, of the first trials of a plan: the trial of each name."""
-        done = self.program.run("run", "--piece", "1", "--checkpoint", "whole.cut", text=plan)
+    def test_joins_of_many(self) -> None:
+        """Joins of more files than a word has bits, and of as many as are joined at most, each with the slip of one trial.
+        The files stay as they are."""
+        many = plan_with(repeats=1000)
+        done = self.program.run("run", "--piece", "1", "--checkpoint", "whole.cut", text=many)
         self.expect("a study in pieces of one trial", 0, done.status)
-        whole, start = self.file("whole.cut").read_bytes(), 45 + len(plan)
-        trials = {f"{(7 * trial) % count}.cut": trial for trial in range(count)}
+        whole, start = self.file("whole.cut").read_bytes(), 45 + len(many)
+        trials = {f"{(7 * trial) % 1000}.cut": trial for trial in range(1000)}
         for name, trial in trials.items():
             slip = whole[start + trial * SLIP : start + (trial + 1) * SLIP]
             self.file(name).write_bytes(whole[:start] + slip + b"\0")
-        return trials
-
-    def test_joins_of_many(self) -> None:
-        """Joins of more files than a word has bits, and of as many as are joined at most. The files stay as they are."""
-        many = plan_with(repeats=1000)
-        trials = self.files_of(many, 1000)
         names = sorted(trials)
         before = [self.file(name).read_bytes() for name in names]
         for count in (65, 1000):
