@@ -16,14 +16,6 @@ from .commands import parser
 from .paths import PROGRAM, ROOT, copy, require
 
 
-def needed(below: dict[str, list[str]], name: str) -> set[str]:
-    """A crate and all that it stands on but the kit's crates."""
-    found = {name}
-    while more := {it for crate in found for it in below[crate] if it in below} - found:
-        found |= more
-    return found
-
-
 def copy_crates(place: Path, below: dict[str, list[str]], crates: set[str]) -> None:
     parts = "src specs proofs data args stdin stdout status".split()
     for path in (ROOT / "crates" / crate / part for crate in crates for part in parts):
@@ -75,7 +67,9 @@ def main() -> int:
     built = PROGRAM.relative_to(ROOT)
     lines = [line.partition("#")[0].split(":") for line in (ROOT / "crates.txt").read_text().split("\n")]
     below = {line[0].split()[0]: line[1].split() for line in lines if len(line) > 1}
-    crates = needed(below, "cutlab")
+    crates = {"cutlab"}
+    while more := {it for crate in crates for it in below[crate] if it in below} - crates:
+        crates |= more
     with tempfile.TemporaryDirectory() as folder:
         copy_crates(Path(folder), below, crates)
         if not prove(Path(folder), crates):

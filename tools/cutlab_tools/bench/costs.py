@@ -100,17 +100,16 @@ def compare(program: Path, is_written: bool) -> int:
 
 
 def print_costs(program: Path, plans: list[Path]) -> None:
+    """Prints the costs of plans by one worker, and those of one plan by several."""
     print(f"{'plan':16}{'seconds':>9}{'trials/s':>10}{'keys/s':>12}{'MiB':>8}")
     for path in plans:
         plan = reference.plan_of(path.read_bytes())
         cost, _ = best_cost([str(program), "run"], path)
         rates = f"{trials_of(plan) / cost.seconds:10.0f}{keys_of(plan) / cost.seconds:12.0f}"
         print(f"{path.name:16}{cost.seconds:9.3f}{rates}{cost.memory:8.1f}")
-
-
-def print_workers(program: Path, plan: Path) -> None:
-    print(f"\n{plan.name} by workers\n{'workers':>8}{'seconds':>9}{'times':>7}{'MiB':>8}")
-    costs = {it: best_cost([str(program), "run", "--workers", str(it)], plan)[0] for it in (1, 2, 4)}
+    path = ROOT / "examples" / "rapid_study.json"
+    print(f"\n{path.name} by workers\n{'workers':>8}{'seconds':>9}{'times':>7}{'MiB':>8}")
+    costs = {it: best_cost([str(program), "run", "--workers", str(it)], path)[0] for it in (1, 2, 4)}
     for workers, cost in costs.items():
         print(f"{workers:8}{cost.clock:9.3f}{costs[1].clock / cost.clock:7.2f}{cost.memory:8.1f}")
 
@@ -123,5 +122,4 @@ def main() -> int:
     given = words.parse_args()
     if not given.instructions:
         print_costs(given.program, given.plans)
-        print_workers(given.program, ROOT / "examples" / "rapid_study.json")
     return compare(given.program, given.write)

@@ -66,19 +66,16 @@ class Crashes(Campaign):
             made = calls[: rng.randint(0, len(calls))]
             left = crash_image(rng, made)
             what = f"{text.decode()} by pieces of {piece}, after {len(made)} calls, as {left.hex()}"
-            self.check_read(what, plan, whole, made, left)
+            acknowledged = sum(bool(write and write.written == b"\xa5") for write in made[:-1]) - 1
+            try:
+                slips = reference.slips_of(plan, left)
+            except reference.Fault as fault:
+                self.expect(f"the reading of {what}", (22, True), (fault.number, acknowledged < 0))
+            else:
+                self.expect(what, whole[: len(slips)], slips)
+                self.require(len(slips) in (max(acknowledged, 0), acknowledged + 1), f"the slips of {what}")
             path.write_bytes(left)
             self.expect_run(Ended(table), "run", "--checkpoint", "study.cut", text=text, what=what)
-
-    def check_read(self, what: str, plan: Plan, whole: list[reference.Slip], made: Calls, left: bytes) -> None:
-        acknowledged = sum(bool(write and write.written == b"\xa5") for write in made[:-1]) - 1
-        try:
-            slips = reference.slips_of(plan, left)
-        except reference.Fault as fault:
-            self.expect(f"the reading of {what}", (22, True), (fault.number, acknowledged < 0))
-            return
-        self.expect(what, whole[: len(slips)], slips)
-        self.require(len(slips) in (max(acknowledged, 0), acknowledged + 1), f"the slips of {what}")
 
 
 def long_plan(rng: random.Random, size: float) -> Plan:

@@ -139,12 +139,14 @@ class Session:
     """A session with a server that has no room for a study, of less than its 1,000,000 requests."""
 
     def __init__(self, program: Path) -> None:
-        self.left, self.folder = 900_000, tempfile.TemporaryDirectory()
-        path = Path(self.folder.name, "socket")
-        self.server = Program(program).serve(path)
-        self.wire = connect(path)
+        self.left, self.held = 900_000, contextlib.ExitStack()
+        path = Path(self.held.enter_context(tempfile.TemporaryDirectory()), "socket")
+        server = Program(program).serve(path)
+        self.held.callback(server.communicate)
+        self.held.callback(server.kill)
+        self.wire = self.held.enter_context(connect(path))
         self.wire.settimeout(60)
-        self.replies = self.wire.makefile("rb")
+        self.replies = self.held.enter_context(self.wire.makefile("rb"))
         self.wire.sendall(reference.frame("R", text_of(SMALLEST)))
         while self.reply()[0] == "T":  # (the only study of the server is run)
             pass
@@ -163,13 +165,6 @@ class Session:
         self.wire.sendall(reference.frame("R", text))
         kind, payload = self.reply()
         return int.from_bytes(payload, "big") if kind == "E" else kind
-
-    def end(self) -> None:
-        self.replies.close()
-        self.wire.close()
-        self.server.kill()
-        self.server.communicate()
-        self.folder.cleanup()
 
 
 class Texts(Campaign):
@@ -202,5 +197,5 @@ class Texts(Campaign):
 
     def close(self) -> None:
         if self.session:
-            self.session.end()
+            self.session.held.close()
         self.session = None

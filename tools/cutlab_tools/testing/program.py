@@ -99,17 +99,15 @@ class Studies(ProgramCases):
         found = self.program.run("run", text=rings, limit=600)
         self.expect("31 rings", Ended(f"{HEADER}31,31,1,1,1,1998,0,0,0,1998,1,1,0\n"), found)
 
-    def test_counts(self) -> None:
-        large = plan_with(nodes=1000, k=[10], h=[6, 7, 8, 9], l=[1, 2, 3, 4], f=[2, 4, 8, 16], repeats=20, dead="speak")
-        self.ends("check", "cells 64\ntrials 1280\nquorum 751\n", large)
-        for nodes, quorum in ((2, 2), (4, 4), (5, 4), (9, 7)):
-            self.ends("check", f"cells 1\ntrials 2\nquorum {quorum}\n", plan_with(nodes=nodes))
-
     def test_answers(self) -> None:
         for line in ("run", "run --workers 3"):
             self.ends(line, TABLE)
         self.ends("check", "cells 1\ntrials 2\nquorum 4\n")
         self.ends("canonical", f"{PLAN.decode()}\n")
+        large = plan_with(nodes=1000, k=[10], h=[6, 7, 8, 9], l=[1, 2, 3, 4], f=[2, 4, 8, 16], repeats=20, dead="speak")
+        self.ends("check", "cells 64\ntrials 1280\nquorum 751\n", large)
+        for nodes, quorum in ((2, 2), (4, 4), (5, 4), (9, 7)):
+            self.ends("check", f"cells 1\ntrials 2\nquorum {quorum}\n", plan_with(nodes=nodes))
 
     def test_progress(self) -> None:
         output, errors, status = self.program.run("run", "--progress", text=PLAN)
