@@ -78,19 +78,14 @@ def row(it: Line) -> str:
     return f"<tr>{''.join(f'<td>{escape(str(cell))}</td>' for cell in cells)}</tr>"
 
 
-def exact_shares(plan: Plan, trials: int) -> tuple[dict[Cell, Fraction], str]:
-    """The exact shares of conflicts of the cells that don't take too long, and what is said of them."""
-    found = list(exact(plan, trials))
-    known = {it.cell: it.columns.conflicts for it in found if it.columns is not None}
-    roles, left = max(it.trials for it in found), len(found) - len(known)
-    said = [PREMISE] if known else []
-    said += [f"It is by the roles of {roles} trials of each cell."] if roles and known else []
-    return known, " ".join(said + ([f"{left} cells have none, as it would take too long."] if left else []))
-
-
 def page(plan: Plan, table: Table, limits: Limits, trials: int) -> str:
     check_fits(plan, table)
-    known, of_exact = exact_shares(plan, trials)
+    columns = list(exact(plan, trials))
+    known = {it.cell: it.columns.conflicts for it in columns if it.columns is not None}
+    roles, left = max(it.trials for it in columns), len(columns) - len(known)
+    of_exact = [PREMISE] if known else []
+    of_exact += [f"It is by the roles of {roles} trials of each cell."] if roles and known else []
+    of_exact += [f"{left} cells have none, as it would take too long."] if left else []
     try:
         chosen, said = choose(table, limits, "conflicts", 1)
     except Refused as why:
@@ -99,7 +94,7 @@ def page(plan: Plan, table: Table, limits: Limits, trials: int) -> str:
     found = {
         "scale": scale(),
         "choice": "".join(f"<li>{escape(it.strip())}</li>" for it in said),
-        "exact": escape(of_exact),
+        "exact": escape(" ".join(of_exact)),
         "grids": "".join(grid(lines, known, chosen) for lines in groups.values()),
         "lines": "\n".join(map(row, table.lines)),
         "plan": escape(",\n ".join(f'"{name}": {json.dumps(value)}' for name, value in plan.items())),

@@ -223,17 +223,14 @@ class Shares:
         found = self.densities[members] = {n - 1: x for n, x in whole.items() if x}
         return found
 
-    def none_reported(self, members: Counts) -> Polynomial:
-        """The chance that no process of the world is reported at v, but for those of a set."""
-        left = [(kind.alerts, number - count) for (kind, number), count in zip(self.world.kinds, members)]
-        return product_of(unreported(alerts, self.rule.l) for alerts, number in left for _ in range(number))
-
     def proposals(self) -> Iterator[Proposed]:
         for members in below(self.numbers):
             density = self.density(members) if any(members) else {}
             if not density:
                 continue
-            others = self.none_reported(members)
+            # The chance that no other process of the world is reported at v.
+            left = [(kind.alerts, number - count) for (kind, number), count in zip(self.world.kinds, members)]
+            others = product_of(unreported(alerts, self.rule.l) for alerts, number in left for _ in range(number))
             common = lcm(*range(1, max(density) + max(others) + 2))
             total = sum(
                 x * factorial(max(density)) // factorial(p) * y * (common // (p + d + 1))

@@ -20,24 +20,19 @@ def value_of(field: str, text: str) -> Any:
         return text
 
 
-def run(plan: Plan, workers: int | None) -> str:
-    if not shutil.which("cutlab"):
-        raise Refused("cutlab is not on the PATH")
-    words = ["--workers", str(workers)] if workers else []
-    done = CUTLAB.run("run", *words, text=text_of(plan), limit=None)
-    if done.status:
-        raise Refused(done.errors.rstrip("\n"))
-    return done.output
-
-
 def vary(plan: Plan, field: str, values: list[str], workers: int | None) -> Iterator[str]:
     """The lines of one table, whose first column is the field's value."""
     if field not in plan:
         raise Refused(f"a plan of version {plan['version']} has no field {field}; it has {', '.join(sorted(plan))}")
     plans = [plan_of(text_of({**plan, field: value_of(field, text)})) for text in values]
-    name = f"{field}_set" if field in LISTS else field
+    if not shutil.which("cutlab"):
+        raise Refused("cutlab is not on the PATH")
+    words, name = ["--workers", str(workers)] if workers else [], f"{field}_set" if field in LISTS else field
     for number, (text, its) in enumerate(zip(values, plans)):
-        header, *lines = run(its, workers).splitlines()
+        done = CUTLAB.run("run", *words, text=text_of(its), limit=None)
+        if done.status:
+            raise Refused(done.errors.rstrip("\n"))
+        header, *lines = done.output.splitlines()
         yield from [f"{name},{header}"] if number == 0 else []
         yield from (f"{text.replace(',', ' ')},{line}" for line in lines)
 

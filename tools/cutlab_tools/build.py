@@ -3,8 +3,12 @@
 The crates that it stands on are proved, as many side by side as there are processors and memory for, without the edits that
 must fail and the crates of tests: `rt ci` over a copy that has nothing else. A line says of each crate when it is proved, and
 about how long the rest may take. What was proved is kept on this machine, so that a first `rt ci` does not prove it again."""
+import contextlib
+import os
 import re
 import shutil
+import socket
+import struct
 import subprocess
 import sys
 import tempfile
@@ -14,6 +18,10 @@ from typing import Iterable
 
 from .commands import parser
 from .paths import PROGRAM, ROOT, copy, require
+from .program import connect
+
+# How long a build may take, and the server of the program that was built.
+BUILD_SECONDS, SERVED_SECONDS = 900, 60
 
 
 def copy_crates(place: Path, below: dict[str, list[str]], crates: set[str]) -> None:
@@ -59,6 +67,50 @@ def prove(place: Path, crates: set[str]) -> bool:
     if proofs.returncode:
         print("".join(kept[-60:]), end="", file=sys.stderr)
     return proofs.returncode == 0
+
+
+class NotBuilt(Exception):
+    """What `rt` says where no program comes of the sources."""
+
+
+class NotServed(NotBuilt):
+    """What the program that was built says in place of serving."""
+
+
+def copy_server(path: Path, program: Path) -> None:
+    """Copies the file that the server at a socket runs from, and ends the server, which takes one session. The words
+    that it was started by may begin with those of a loader: the file stands before `serve`."""
+    with connect(path) as wire:
+        number, _, _ = struct.unpack("3i", wire.getsockopt(socket.SOL_SOCKET, socket.SO_PEERCRED, 12))
+        words = Path(f"/proc/{number}/cmdline").read_text().split("\0")
+        shutil.copyfile(os.path.join(f"/proc/{number}/cwd", words[words.index("serve") - 1]), program)
+    program.chmod(0o755)
+
+
+def build_unproved(root: Path, program: Path) -> None:
+    """Builds the program of a copy of the repository into a file: it is run as a server, whose file is copied."""
+    with tempfile.TemporaryDirectory() as folder, Path(folder, "log").open("w+", errors="replace") as log:
+        path, last = Path(folder, "socket"), time.monotonic() + BUILD_SECONDS
+        serve = ["serve", str(path), "--workers", "1", "--sessions", "1", "--studies", "1"]
+        words = ["rt", "try", "--steps", "1", "--seconds", str(SERVED_SECONDS), "--", *serve]
+        trial = subprocess.Popen(words, cwd=root / "crates/cutlab", stdin=subprocess.DEVNULL, stdout=log, stderr=log)
+        try:
+            while time.monotonic() < last and trial.poll() is None and not path.exists():
+                time.sleep(0.1)
+            if path.exists():
+                return copy_server(path, program)
+        finally:
+            with contextlib.suppress(subprocess.TimeoutExpired):
+                trial.wait(timeout=max(0, last - time.monotonic()))
+            trial.terminate()  # (nothing, where it has ended)
+            trial.wait()
+        log.seek(0)
+        printed = log.read()
+    if time.monotonic() >= last:
+        raise NotBuilt(f"the build took over {BUILD_SECONDS} s")
+    if "run=none" in printed or "\nrun=" not in printed:
+        raise NotBuilt(f"the program does not build\n{printed}")
+    raise NotServed(f"the program is built, but does not serve\n{printed}")
 
 
 def main() -> int:

@@ -18,10 +18,10 @@ from functools import partial
 from pathlib import Path
 from typing import Callable, NamedTuple
 
+from .build import NotBuilt, build_unproved
 from .commands import parser
 from .documents.pages import Command, try_pages
 from .paths import ROOT, copy, require, tracked_files
-from .unproved import NotBuilt, build_unproved
 
 # The campaigns, the longest first, with the number of cases that each tries, and of the parts that it is divided into.
 CAMPAIGNS = [

@@ -68,14 +68,12 @@ def trial_columns(plan: Plan, layout: reference.Layout, number: int, line: Line)
 
 class Exact(Campaign):
     def case(self, rng: random.Random) -> None:
-        self.check_orders(SmallWorld(rng))
-        self.check_table({**drawn_plan(rng), "repeats": rng.randint(4, 30)})
-
-    def check_orders(self, small: SmallWorld) -> None:
+        small = SmallWorld(rng)
         world = exact.world_of(small.plan, small.layout, small.roles, small.cell)
         columns = exact.columns_of(world, Rule(*small.cell[1:3]), 1, 1)
         found = [getattr(columns, name) * math.factorial(len(small.edges)) for name in COLUMNS]
         self.expect(f"orders in conflict, silent and with an extra of {small.shown()}", small.counts(), found)
+        self.check_table({**drawn_plan(rng), "repeats": rng.randint(4, 30)})
 
     def check_column(self, plan: Plan, line: Line, name: str, shares: list[Fraction]) -> float | None:
         """A column of a line beside its exact shares by trials: its distance in standard deviations, if that says much."""

@@ -19,9 +19,9 @@ from itertools import zip_longest
 from pathlib import Path
 from typing import NamedTuple, Sequence
 
+from ..build import NotBuilt, NotServed, build_unproved
 from ..commands import parser
 from ..paths import DATA, ROOT, copy_repository, require
-from ..unproved import NotBuilt, NotServed, build_unproved
 
 # What is run with the program of an edit, the shortest first: the last goes on until the time is over.
 CAMPAIGNS = (
