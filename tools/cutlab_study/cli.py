@@ -34,14 +34,6 @@ def parts(text: str, option: str, why: str) -> tuple[str, str]:
     return name, value
 
 
-def exact_line(it: shares.CellColumns) -> str:
-    cell = ",".join(map(str, it.cell))
-    if it.columns is None:
-        return f"# {cell} left out: {it.why}"
-    columns: Iterable[Any] = it.columns
-    return ",".join([cell, *(f"{float(share):.6g}" for share in columns), str(it.trials)])
-
-
 def exact(given: Words) -> Iterator[str]:
     """Print the exact shares of a plan's cells, without a trial"""
     plan = read_plan(given.plan)
@@ -55,7 +47,10 @@ def exact(given: Words) -> Iterator[str]:
         yield from shares.beside(plan, read_table(given.beside))
     else:
         yield "k,h,l,f,conflicts,silent,extra,decided,right,trials"
-        yield from map(exact_line, shares.exact(plan, given.trials))
+        for it in shares.exact(plan, given.trials):
+            columns: Iterable[Any] = it.columns or ()
+            cell, found = ",".join(map(str, it.cell)), [f"{float(share):.6g}" for share in columns]
+            yield ",".join([cell, *found, str(it.trials)]) if found else f"# {cell} left out: {it.why}"
 
 
 def choose(given: Words) -> list[str]:

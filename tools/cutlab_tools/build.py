@@ -58,17 +58,6 @@ def print_progress(crates: set[str], printed: Iterable[bytes], kept: list[str]) 
         print(f"{count:>3} of {len(crates)}  {proved[1]:<20} {minutes(taken):>7}, about {left} left", flush=True)
 
 
-def prove(place: Path, crates: set[str]) -> bool:
-    """Proves the copy, and says how far it is: whether all was proved."""
-    kept: list[str] = []
-    pipe, none = subprocess.PIPE, subprocess.DEVNULL
-    with subprocess.Popen(["rt", "ci"], cwd=place, stdin=none, stdout=pipe, stderr=subprocess.STDOUT) as proofs:
-        print_progress(crates, proofs.stdout or [], kept)
-    if proofs.returncode:
-        print("".join(kept[-60:]), end="", file=sys.stderr)
-    return proofs.returncode == 0
-
-
 class NotBuilt(Exception):
     """What `rt` says where no program comes of the sources."""
 
@@ -124,8 +113,11 @@ def main() -> int:
         crates |= more
     with tempfile.TemporaryDirectory() as folder:
         copy_crates(Path(folder), below, crates)
-        if not prove(Path(folder), crates):
-            sys.exit("build: not everything was proved, so there is no program")
+        kept, pipe, none = list[str](), subprocess.PIPE, subprocess.DEVNULL
+        with subprocess.Popen(["rt", "ci"], cwd=folder, stdin=none, stdout=pipe, stderr=subprocess.STDOUT) as proofs:
+            print_progress(crates, proofs.stdout or [], kept)
+        if proofs.returncode:
+            sys.exit("".join([*kept[-60:], "build: not everything was proved, so there is no program"]))
         copy(Path(folder, built), PROGRAM)
     print(f"proved and built: {built}\n{built} run < examples/one_crash.json")
     return 0

@@ -9,25 +9,6 @@ from ..plans import Plan, drawn_plan, text_of
 from .campaign import Campaign
 
 
-def laws_of(x: Line, nodes: int, quorum: int) -> dict[str, object]:
-    """What holds of a line, which is of all trials of its cell, by what is said where it does not."""
-    wrong, to_spare = x.conflicts + x.extra + x.silent, max(nodes - x.f + 1 - quorum, 0)
-    is_right = int(quorum + x.silent + x.conflicts <= x.receivers)
-    no_targets, alone, met = x.f == 0, x.trials == 1, x.l == x.h
-    return {
-        "a wrong decision without a wrong quorum": quorum * x.decided <= quorum * x.right + x.conflicts + x.extra,
-        "right receivers without a vote": x.receivers <= x.votes + wrong,
-        "a trial is not right with receivers to spare": to_spare * (x.trials - x.right) <= wrong,
-        "a decision where too many failed": x.f <= (nodes - 1) // 4 or x.decided == x.right == 0,
-        "a conflict where none failed": not no_targets or x.conflicts == x.right == 0,
-        "a proposal of nobody": not no_targets or x.extra + x.silent == x.receivers,
-        "a proposal of two with L = H": not met or x.f < 2 or x.conflicts + x.silent == x.receivers,
-        "a right trial of two targets with L = H": not met or x.f < 2 or x.right == 0,
-        "one trial is right against its verdicts": not alone or x.extra > 0 or x.right == is_right,
-        "some of one trial are silent and some not with L = H": not alone or not met or x.silent in (0, x.receivers),
-    }
-
-
 class Laws(Campaign):
     def case(self, rng: random.Random) -> None:
         plan = drawn_plan(rng, most_work=4_000_000)
@@ -53,8 +34,24 @@ class Laws(Campaign):
         return [Line(**dict(zip(names, map(int, row)))) for row in rows]
 
     def check_line(self, plan: Plan, x: Line, what: str) -> None:
+        """What holds of a line, which is of all trials of its cell."""
         nodes, quorum = plan["nodes"], reference.quorum(plan["nodes"])
-        for said, holds in laws_of(x, nodes, quorum).items():
+        wrong, to_spare = x.conflicts + x.extra + x.silent, max(nodes - x.f + 1 - quorum, 0)
+        is_right, all_or_none = int(quorum + x.silent + x.conflicts <= x.receivers), x.silent in (0, x.receivers)
+        no_targets, alone, met = x.f == 0, x.trials == 1, x.l == x.h
+        laws = {
+            "a wrong decision without a wrong quorum": quorum * x.decided <= quorum * x.right + x.conflicts + x.extra,
+            "right receivers without a vote": x.receivers <= x.votes + wrong,
+            "a trial is not right with receivers to spare": to_spare * (x.trials - x.right) <= wrong,
+            "a decision where too many failed": x.f <= (nodes - 1) // 4 or x.decided == x.right == 0,
+            "a conflict where none failed": not no_targets or x.conflicts == x.right == 0,
+            "a proposal of nobody": not no_targets or x.extra + x.silent == x.receivers,
+            "a proposal of two with L = H": not met or x.f < 2 or x.conflicts + x.silent == x.receivers,
+            "a right trial of two targets with L = H": not met or x.f < 2 or x.right == 0,
+            "one trial is right against its verdicts": not alone or x.extra > 0 or x.right == is_right,
+            "some of one trial are silent and some not with L = H": not alone or not met or all_or_none,
+        }
+        for said, holds in laws.items():
             self.require(holds, f"{said}: {what}")
         fails_by_crash = plan["faults"] == "crash" if plan["version"] == 1 else plan["deaf"] == 0
         if x.f != 1 or not fails_by_crash or plan["liars"] or plan["links"]:

@@ -40,14 +40,6 @@ class WrongBody(NamedTuple):
     changes: Sequence[Sequence[str]]
     campaigns: Sequence[str]
 
-    def apply(self, place: Path) -> None:
-        text = (place / self.file).read_text()
-        for old, new in self.changes:
-            if old not in text:
-                raise NotBuilt(f"{self.file} lacks {old}")
-            text = text.replace(old, new)
-        (place / self.file).write_text(text)
-
 
 def edit_of(path: Path) -> WrongBody:
     """An edit that must fail."""
@@ -96,10 +88,13 @@ def attempt(body: WrongBody, seconds: float, last: float) -> str:
     if time.monotonic() > last:
         return f"{NOT_RUN}: the time is over"
     with tempfile.TemporaryDirectory() as folder:
-        program = Path(folder, "cutlab")
+        program, file = Path(folder, "cutlab"), Path(folder, body.file)
         copy_repository(Path(folder))
+        for old, new in body.changes:
+            if old not in file.read_text():
+                return f"{NOT_BUILT}: {body.file} lacks {old}"
+            file.write_text(file.read_text().replace(old, new))
         try:
-            body.apply(Path(folder))
             build_unproved(Path(folder), program)
         except NotServed:
             return "seen by the build, whose program does not serve"

@@ -24,8 +24,6 @@ USE = re.compile(r"use ([\w.]+?)(?:\.\{(.*)\})?(?: as (\w+))?$")
 ITEM = r"((?:^ *///[^\n]*\n|^ *#\[[^\n]*\n)*)^ *(?:pub(?:\(crate\))? )?(?:struct|enum|trait|const) %s\b.*?(?:^}|;)\n"
 CONTRACT = r"((?:^ *///[^\n]*\n)*)^ *pub fn %s\b.*?\n(?= *{\n)"
 CLAUSE = re.compile(r"(?:ensures|requires)[^{]*\{(.*?)\}\s*(?=ensures|requires|$)", re.S)
-
-
 Cited = tuple[str, str]  # a module, and a name of it
 
 

@@ -25,13 +25,6 @@ def fault_in(errors: str) -> tuple[int, str] | str:
     return (int(found[1]), found[2]) if found else errors
 
 
-def pieces_in(held: bytes) -> list[tuple[int, int]]:
-    """The first trial of each slip of a whole file, and how many it has."""
-    at, size = 45 + int.from_bytes(held[9:13], "big"), 105 if held[8:9] == b"1" else 113
-    slips = [held[start : start + size] for start in range(at, len(held) - 1, size)]
-    return [(int.from_bytes(it[1:9], "big"), int.from_bytes(it[9:17], "big")) for it in slips]
-
-
 class Vectors(Cases):
     def put(self, name: str, held: str) -> Path:
         """A file of these bytes, in hexadecimal digits."""
@@ -92,7 +85,10 @@ class Vectors(Cases):
             words = ["share", row["share"], path.name, "--piece", str(row["piece"]), "--workers", "2"]
             what = f"share {row['share']} in pieces of {row['piece']} from {row['before']}"
             self.expect(what, row["printed"], self.printed(row, *words))
-            pieces = pieces_in(path.read_bytes())
+            held = path.read_bytes()
+            at, size = 45 + int.from_bytes(held[9:13], "big"), 105 if held[8:9] == b"1" else 113
+            slips = [held[start : start + size] for start in range(at, len(held) - 1, size)]
+            pieces = [(int.from_bytes(it[1:9], "big"), int.from_bytes(it[9:17], "big")) for it in slips]
             if "slips" in row:
                 self.expect(f"the slips of {what}", [tuple(it) for it in row["slips"]], pieces)
             else:
