@@ -15,8 +15,7 @@ TERMINALS = {
 }
 COLOURS = ("#000000", "#c03000", "#2060c0", "#808080", "#208020", "#8020a0", "#b08000", "#009090")
 LINEAR = "set yrange [-3:103]\nset ytics 20"
-# The points of a line: at a place, a share in percent; and the sums of which shares are drawn.
-Points = list[tuple[int, float]]
+Points = list[tuple[int, float]]  # at a place, a share in percent
 SUMS = ("receivers", "silent", "conflicts")
 
 

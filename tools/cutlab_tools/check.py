@@ -34,7 +34,6 @@ TESTED = "cut_command_line_tests"
 # Checks of documents by the sources alone, and by what the program prints.
 BY_SOURCES = ["docs/statement/make --check", "docs/layers/make --check", "docs/words", "docs/faults"]
 BY_PROGRAM = ["docs/schema", "docs/manual/make --check", "docs/completions/make --check", "docs/refuses"]
-# What looks at the tools, where it is installed.
 TOOLS = ["mypy --cache-dir=/dev/null", "black --check --quiet ."]
 # How a part's output says how many cases passed and failed, or were tried and different.
 RUST_TESTS, PYTHON_TESTS = r"^test result: .*?(\d+) passed; (\d+) failed", r"^Ran (\d+)() tests"

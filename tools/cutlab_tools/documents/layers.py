@@ -56,7 +56,6 @@ def places(listed: Layers) -> dict[str, int]:
 
 
 def arrows(listed: Layers) -> Iterator[tuple[int, int]]:
-    """From which layer to which one an arrow goes."""
     place, used, reached = places(listed), list[set[int]](), list[set[int]]()
     for at, crates in enumerate(listed.values()):
         below = {place[it] for crate in crates for it in crate.stands_on} - {at}

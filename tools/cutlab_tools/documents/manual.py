@@ -19,7 +19,6 @@ def roff(text: str) -> str:
 
 
 def usage(command: Command) -> str:
-    """How a command is called, after the program's name."""
     return next(line for line in command.lines if line.startswith("Usage: ")).removeprefix("Usage: cutlab ")
 
 
