@@ -7,19 +7,20 @@ with the program.
     cutlab_reference.py check < plan.json      cells, trials and quorum
     cutlab_reference.py read plan.json FILE    what the checkpoint file holds for this plan
 """
-from __future__ import annotations
-
 import hashlib
 import json
+import math
+import re
 import sys
-from itertools import product
-from typing import Any, Dict, Iterable, List, NoReturn, Optional, Set, Tuple
+from itertools import accumulate, product
+from typing import Any, Iterable, NamedTuple
 
-Plan = Dict[str, Any]
-Cell = Tuple[int, int, int, int]  # K, H, L and F
-Edge = Tuple[int, int]  # a ring and a subject
-Sums = Dict[str, int]
-Slip = Tuple[int, int, Sums]  # the first trial, how many, and their sums
+Plan = dict[str, Any]
+Cell = tuple[int, int, int, int]  # K, H, L and F
+Edge = tuple[int, int]  # a ring and a subject
+Proposal = tuple[tuple[int, ...], int]  # its members, and after how many deliveries
+Sums = dict[str, int]
+Slip = tuple[int, int, Sums]  # the first trial, how many, and their sums
 
 
 class Fault(Exception):
@@ -34,37 +35,29 @@ class Fault(Exception):
     # fmt: on
 
     def __init__(self, number: int, carried: object = None) -> None:
-        super().__init__(number, carried)
+        super().__init__(f"cutlab: fault {number} {self.NAMES[number]}" + ("" if carried is None else f" {carried}"))
         self.number, self.carried = number, carried
-
-    def __str__(self) -> str:
-        tail = "" if self.carried is None else f" {self.carried}"
-        return f"cutlab: fault {self.number} {self.NAMES[self.number]}{tail}"
 
 
 # ---- plans
 # fmt: off
 WHOLE, TEXT, TRUTH, WHOLES = "whole number", "text", "truth", "whole numbers"
-COMMON: Dict[str, Tuple[Any, ...]] = {
+COMMON: dict[str, tuple[Any, ...]] = {
     "copies": (WHOLE, 1, 4), "dead": (TEXT, ("silent", "speak")), "f": (WHOLES, 0, None), "h": (WHOLES, 1, 32),
     "implicit": (TRUTH,), "k": (WHOLES, 1, 32), "l": (WHOLES, 1, 32), "liars": (WHOLE, 0, 2048),
     "links": (WHOLE, 0, 2048), "nodes": (WHOLE, 2, 2048), "repeats": (WHOLE, 1, 1_000_000), "seed": (TEXT, None),
 }
-FIELDS: Dict[int, Dict[str, Tuple[Any, ...]]] = {
+FIELDS: dict[int, dict[str, tuple[Any, ...]]] = {
     1: {**COMMON, "faults": (TEXT, ("crash", "deaf")), "version": (WHOLE, 1, 1)},
     2: {**COMMON, "deaf": (WHOLE, 0, 2048), "version": (WHOLE, 2, 2)},
 }
 # fmt: on
 
 
-class Number:
+class Number(NamedTuple):
     """A number of a JSON text, as it is written there."""
 
-    def __init__(self, text: str) -> None:
-        self.text = text
-
-    def __int__(self) -> int:
-        return int(self.text)
+    text: str
 
 
 def is_whole(value: object) -> bool:
@@ -77,7 +70,7 @@ def is_of_kind(kind: str, value: object) -> bool:
     return {WHOLE: is_whole(value), TEXT: isinstance(value, str), TRUTH: isinstance(value, bool)}[kind]
 
 
-def in_range(field: str, value: Any, rule: Tuple[Any, ...], nodes: int) -> bool:
+def in_range(field: str, value: Any, rule: tuple[Any, ...], nodes: int) -> bool:
     kind = rule[0]
     if kind == TRUTH:
         return True
@@ -85,7 +78,7 @@ def in_range(field: str, value: Any, rule: Tuple[Any, ...], nodes: int) -> bool:
         return len(value) == 64 and all(digit in "0123456789abcdefABCDEF" for digit in value)
     if kind == TEXT:
         return value in rule[1]
-    numbers = [int(item) for item in value] if kind == WHOLES else [int(value)]
+    numbers = value if kind == WHOLES else [value]
     high = nodes - 1 if field == "f" else rule[2]
     return numbers != [] and all(rule[1] <= number <= high for number in numbers)
 
@@ -94,35 +87,27 @@ def json_value(text: bytes) -> Any:
     """The value of a JSON text (RFC 8259), of 127 levels at most and with numbers that a double holds."""
 
     def number(digits: str) -> Number:
-        value = float(digits)
-        if value in (float("inf"), float("-inf")):
+        if not math.isfinite(float(digits)):
             raise ValueError(digits)
         return Number(digits)
 
-    def refuse(word: str) -> NoReturn:
-        raise ValueError(word)
-
     try:
         decoded = text.decode("utf-8")
-        depth = most = 0
-        inside = escaped = False
-        for letter in decoded:
-            if inside:
-                escaped, inside = letter == "\\" and not escaped, letter != '"' or escaped
-            elif letter == '"':
-                inside = True
-            elif letter in "[{":
-                depth += 1
-                most = max(most, depth)
-            elif letter in "]}":
-                depth -= 1
-        if most > 127 or decoded.startswith("\ufeff"):
-            raise ValueError("depth")
-        value = json.loads(decoded, parse_int=number, parse_float=number, parse_constant=refuse)
-        json.dumps(value, default=lambda it: it.text, ensure_ascii=False).encode("utf-8")
-        return value
+        value = json.loads(decoded, parse_int=number, parse_float=number, parse_constant=number)
+        json.dumps(value, ensure_ascii=False).encode("utf-8")  # (half of a surrogate pair is refused)
     except (ValueError, RecursionError):
         raise Fault(1) from None
+    without_texts = re.sub(r'"(?:[^"\\]|\\.)*"', "", decoded)
+    if max(accumulate((it in "[{") - (it in "]}") for it in without_texts), default=0) > 127:
+        raise Fault(1)
+    return value
+
+
+def plain(value: Any) -> Any:
+    """A value of a field with its numbers as whole numbers."""
+    if isinstance(value, list):
+        return [int(it.text) for it in value]
+    return int(value.text) if isinstance(value, Number) else value
 
 
 def plan_of(text: bytes) -> Plan:
@@ -132,7 +117,7 @@ def plan_of(text: bytes) -> Plan:
     value = json_value(text)
     if not isinstance(value, dict):
         raise Fault(2)
-    version = 2 if is_whole(value.get("version")) and int(value["version"]) == 2 else 1
+    version = 2 if is_whole(value.get("version")) and plain(value["version"]) == 2 else 1
     fields = FIELDS[version]
     if any(field not in fields for field in value):
         raise Fault(3)
@@ -143,13 +128,10 @@ def plan_of(text: bytes) -> Plan:
     for field in names:
         if not is_of_kind(fields[field][0], value[field]):
             raise Fault(5, field)
+    plan = {field: plain(value[field]) for field in names}
     for field in names:
-        if not in_range(field, value[field], fields[field], int(value["nodes"])):
+        if not in_range(field, plan[field], fields[field], plan["nodes"]):
             raise Fault(6, field)
-    plan: Plan = {}
-    for field in names:
-        kind, found = fields[field][0], value[field]
-        plan[field] = [int(it) for it in found] if kind == WHOLES else int(found) if kind == WHOLE else found
     plan["seed"] = plan["seed"].lower()
     for field in names:
         if fields[field][0] == WHOLES and any(a >= b for a, b in zip(plan[field], plan[field][1:])):
@@ -163,7 +145,7 @@ def plan_of(text: bytes) -> Plan:
     return plan
 
 
-def cells(plan: Plan) -> List[Cell]:
+def cells(plan: Plan) -> list[Cell]:
     """The combinations of the lists with l <= h <= k, in lexical order."""
     combinations = product(plan["k"], plan["h"], plan["l"], plan["f"])
     return [(k, h, l, f) for k, h, l, f in combinations if l <= h <= k]
@@ -174,12 +156,12 @@ def canonical_text(plan: Plan) -> bytes:
 
 
 # ---- rings
-def ring(plan: Plan, number: int) -> List[int]:
+def ring(plan: Plan, number: int) -> list[int]:
     """The processes of a ring in its order."""
-    seed = bytes.fromhex(plan["seed"])
 
     def digest(process: int) -> bytes:
-        return hashlib.sha256(seed + number.to_bytes(4, "big") + process.to_bytes(4, "big")).digest()
+        text = bytes.fromhex(plan["seed"]) + number.to_bytes(4, "big") + process.to_bytes(4, "big")
+        return hashlib.sha256(text).digest()
 
     return sorted(range(plan["nodes"]), key=lambda process: (digest(process), process))
 
@@ -187,7 +169,7 @@ def ring(plan: Plan, number: int) -> List[int]:
 class Layout:
     """The observers and subjects of the first rings."""
 
-    def __init__(self, rings: List[List[int]]) -> None:
+    def __init__(self, rings: list[list[int]]) -> None:
         self.rings = rings
         self.place = [{process: at for at, process in enumerate(ring)} for ring in rings]
 
@@ -203,16 +185,16 @@ def layout_of(plan: Plan) -> Layout:
 
 
 # ---- draws
-def quarter_round(state: List[int], a: int, b: int, c: int, d: int) -> None:
+def quarter_round(state: list[int], a: int, b: int, c: int, d: int) -> None:
     for x, y, z, by in ((a, b, d, 16), (c, d, b, 12), (a, b, d, 8), (c, d, b, 7)):
         state[x] = (state[x] + state[y]) & 0xFFFFFFFF
         word = state[z] ^ state[x]
         state[z] = (word << by | word >> 32 - by) & 0xFFFFFFFF
 
 
-def block(seed: bytes, stream: int, counter: int) -> List[int]:
+def block(seed: bytes, stream: int, counter: int) -> list[int]:
     """A block of ChaCha with 8 rounds (RFC 8439), with a counter and a stream number of 64 bits each."""
-    words = [int.from_bytes(bytes_of, "little") for bytes_of in (seed[at : at + 4] for at in range(0, 32, 4))]
+    words = [int.from_bytes(seed[at : at + 4], "little") for at in range(0, 32, 4)]
     places = [half for number in (counter, stream) for half in (number & 0xFFFFFFFF, number >> 32)]
     first = [0x61707865, 0x3320646E, 0x79622D32, 0x6B206574, *words, *places]
     state = list(first)
@@ -229,7 +211,7 @@ class Source:
 
     def __init__(self, plan: Plan, trial: int) -> None:
         self.seed, self.trial = bytes.fromhex(plan["seed"]), trial
-        self.blocks: Dict[int, List[int]] = {}
+        self.blocks: dict[int, list[int]] = {}
 
     def word(self, place: int) -> int:
         number = place // 16
@@ -241,10 +223,10 @@ class Source:
         return self.word(place) << 32 | self.word(place + 1)
 
 
-def deliveries(source: Source, receiver: int, k: int, edges: Iterable[Edge], copies: int) -> List[Edge]:
+def deliveries(source: Source, receiver: int, k: int, edges: Iterable[Edge], copies: int) -> list[Edge]:
     """Each copy of each edge, in the order in which it comes to a receiver: edges are (ring, subject)."""
 
-    def rank(delivery: Tuple[Edge, int]) -> Tuple[int, int, int]:
+    def rank(delivery: tuple[Edge, int]) -> tuple[int, int, int]:
         (number, subject), copy = delivery
         edge = subject * k + number
         return source.key(2**20 + 2 * ((copy * 2**11 + receiver) * 2**16 + edge)), edge, copy
@@ -269,23 +251,14 @@ class Roles:
 def is_alerted(layout: Layout, roles: Roles, number: int, subject: int) -> bool:
     observer = layout.observer(number, subject)
     up = observer not in roles.crashed
-    return (
-        subject in roles.targets
-        and (up or roles.speak)
-        or observer in roles.deaf
-        or observer in roles.liars
-        or up
-        and ((observer, subject) in roles.links or (subject, observer) in roles.links)
-    )
+    is_failed = subject in roles.targets and (up or roles.speak)
+    is_cut = up and ((observer, subject) in roles.links or (subject, observer) in roles.links)
+    return is_failed or observer in roles.deaf or observer in roles.liars or is_cut
 
 
-def alert_list(plan: Plan, layout: Layout, roles: Roles, k: int) -> List[Edge]:
-    return [
-        (number, subject)
-        for subject in range(plan["nodes"])
-        for number in range(k)
-        if is_alerted(layout, roles, number, subject)
-    ]
+def alert_list(plan: Plan, layout: Layout, roles: Roles, k: int) -> list[Edge]:
+    edges = product(range(plan["nodes"]), range(k))
+    return [(number, subject) for subject, number in edges if is_alerted(layout, roles, number, subject)]
 
 
 # ---- detection
@@ -294,7 +267,7 @@ class Detector:
 
     def __init__(self, layout: Layout, k: int, h: int, l: int, implicit: bool) -> None:
         self.layout, self.k, self.h, self.l, self.implicit = layout, k, h, l, implicit
-        self.reported: Dict[int, Set[int]] = {}
+        self.reported: dict[int, set[int]] = {}
 
     def full_reports(self, subject: int) -> int:
         """How many rings report the subject or are gained by it."""
@@ -308,7 +281,7 @@ class Detector:
         number, subject = edge
         self.reported.setdefault(subject, set()).add(number)
 
-    def settled(self) -> Optional[List[int]]:
+    def settled(self) -> list[int] | None:
         """The stable processes, where there is one and none is unstable."""
         counts = {subject: self.full_reports(subject) for subject in self.reported}
         unstable = any(self.l <= count < self.h for count in counts.values())
@@ -317,15 +290,14 @@ class Detector:
 
 
 def proposal(
-    plan: Plan, layout: Layout, cell: Cell, edges: List[Edge], source: Source, receiver: int
-) -> Optional[Tuple[Tuple[int, ...], int]]:
-    """The members that a receiver proposes, and after how many deliveries; None where it never does."""
+    plan: Plan, layout: Layout, cell: Cell, edges: list[Edge], source: Source, receiver: int
+) -> Proposal | None:
+    """What a receiver proposes; None where it never does."""
     k, h, l, _ = cell
     detector = Detector(layout, k, h, l, plan["implicit"])
     for at, edge in enumerate(deliveries(source, receiver, k, edges, plan["copies"]), 1):
         detector.deliver(edge)
-        members = detector.settled()
-        if members is not None:
+        if members := detector.settled():
             return tuple(members), at
     return None
 
@@ -345,11 +317,8 @@ def outcome(plan: Plan, layout: Layout, trial: int) -> Sums:
     roles = Roles(plan, cell[3], source, layout)
     edges = alert_list(plan, layout, roles, cell[0])
     targets = set(roles.targets)
-    found = [
-        proposal(plan, layout, cell, edges, source, receiver)
-        for receiver in range(plan["nodes"])
-        if receiver not in targets
-    ]
+    receivers = (it for it in range(plan["nodes"]) if it not in targets)
+    found = [proposal(plan, layout, cell, edges, source, it) for it in receivers]
     proposed = [it for it in found if it is not None]
     votes = [members for members, _ in proposed]
     most = max(map(votes.count, set(votes)), default=0)
@@ -372,31 +341,22 @@ def piece_sums(plan: Plan, layout: Layout, first: int, count: int) -> Sums:
 
 # ---- the table
 def header(plan: Plan) -> str:
-    settled = ["settled"] if plan["version"] == 2 else []
-    return ",".join(["k", "h", "l", "f", "trials", *SUMS[:7], *settled, "ppm"]) + "\n"
+    return ",".join(["k", "h", "l", "f", "trials", *SUMS[: 6 + plan["version"]], "ppm"]) + "\n"
 
 
 def line(plan: Plan, cell: Cell, trials: int, sums: Sums) -> str:
-    settled = [sums["settled"]] if plan["version"] == 2 else []
-    ppm = sums["conflicts"] * 10**6 // sums["receivers"]
-    return ",".join(map(str, [*cell, trials, *(sums[name] for name in SUMS[:7]), *settled, ppm])) + "\n"
+    counted = [sums[name] for name in SUMS[: 6 + plan["version"]]]
+    return ",".join(map(str, [*cell, trials, *counted, sums["conflicts"] * 10**6 // sums["receivers"]])) + "\n"
 
 
 def table(plan: Plan) -> str:
-    layout = layout_of(plan)
-    repeats = plan["repeats"]
-    lines = [
-        line(plan, cell, repeats, piece_sums(plan, layout, number * repeats, repeats))
-        for number, cell in enumerate(cells(plan))
-    ]
-    return header(plan) + "".join(lines)
+    return table_over(plan, [])
 
 
-def table_over(plan: Plan, slips: List[Slip]) -> str:
+def table_over(plan: Plan, slips: list[Slip]) -> str:
     """The table of a study that went on from these slips, whatever their sums are."""
     layout, repeats = layout_of(plan), plan["repeats"]
-    lines: List[str] = []
-    held = {trial for first, count, _ in slips for trial in range(first, first + count)}
+    held, lines = {trial for first, count, _ in slips for trial in range(first, first + count)}, list[str]()
     for number, cell in enumerate(cells(plan)):
         trials = range(number * repeats, (number + 1) * repeats)
         parts = [sums for first, _, sums in slips if first in trials]
@@ -407,7 +367,6 @@ def table_over(plan: Plan, slips: List[Slip]) -> str:
 
 # ---- checkpoint files
 def numbers_of(plan: Plan) -> int:
-    """How many numbers a slip has."""
     return 8 + int(plan["version"])
 
 
@@ -424,7 +383,7 @@ def file_of(plan: Plan, slips: Iterable[Slip]) -> bytes:
     return whole + b"\0"
 
 
-def slips_of(plan: Plan, held: bytes) -> List[Slip]:
+def slips_of(plan: Plan, held: bytes) -> list[Slip]:
     """The slips that a file holds for this plan, or the fault of reading it."""
     if len(held) <= 1 or held[0] != 0xA5:
         raise Fault(22)
@@ -438,7 +397,7 @@ def slips_of(plan: Plan, held: bytes) -> List[Slip]:
         raise Fault(23)
     if held[8] != ord(str(plan["version"])):
         raise Fault(24, 0)
-    slips: List[Slip] = []
+    slips: list[Slip] = []
     at, size = 45 + n, 8 * numbers_of(plan)
     while held[at] == 0xA5:
         number = len(slips) + 1
@@ -454,9 +413,9 @@ def slips_of(plan: Plan, held: bytes) -> List[Slip]:
     return slips
 
 
-def checked_slips(plan: Plan, slips: List[Slip]) -> List[Slip]:
+def checked_slips(plan: Plan, slips: list[Slip]) -> list[Slip]:
     """The slips, or the fault of the first that is no piece, overlaps an earlier one, or has impossible sums."""
-    held: Set[int] = set()
+    held: set[int] = set()
     repeats = plan["repeats"]
     for number, (first, count, sums) in enumerate(slips, 1):
         last = first + count - 1
@@ -465,44 +424,43 @@ def checked_slips(plan: Plan, slips: List[Slip]) -> List[Slip]:
         k, _, _, f = cells(plan)[first // repeats]
         trials = range(first, first + count)
         speaking = sums["receivers"] - sums["silent"]
-        most = speaking * plan["nodes"] * k * plan["copies"] if plan["version"] == 2 else 0
         least = speaking if plan["version"] == 2 else 0
         possible = (
             sums["receivers"] == count * (plan["nodes"] - f)
             and max(sums["silent"], sums["votes"]) <= sums["receivers"]
             and max(sums["conflicts"], sums["extra"]) <= speaking
             and sums["right"] <= sums["decided"] <= count
-            and least <= sums["settled"] <= most
+            and least <= sums["settled"] <= least * plan["nodes"] * k * plan["copies"]
         )
-        if any(trial in held for trial in trials) or not possible:
+        if not held.isdisjoint(trials) or not possible:
             raise Fault(17, number)
         held.update(trials)
     return slips
 
 
 # ---- messages
-# fmt: off
-KINDS: Dict[str, Dict[str, Optional[int]]] = {"requests": {"R": None, "S": 4, "Q": 0}, "replies": {"T": None, "Z": 0, "S": 8, "E": 2}}
-# fmt: on
+Lengths = dict[str, int | None]  # of the payload of each kind, where it is fixed
+REQUESTS: Lengths = {"R": None, "S": 4, "Q": 0}
+REPLIES: Lengths = {"T": None, "Z": 0, "S": 8, "E": 2}
 
 
 def frame(kind: str, payload: bytes = b"") -> bytes:
     return kind.encode() + len(payload).to_bytes(4, "big") + payload
 
 
-def messages(side: str, stream: bytes) -> Tuple[List[Tuple[str, bytes]], Optional[int]]:
+def messages(lengths: Lengths, stream: bytes) -> tuple[list[tuple[str, bytes]], int | None]:
     """The messages of a whole stream, and its fault, if it has one."""
-    found: List[Tuple[str, bytes]] = []
+    found: list[tuple[str, bytes]] = []
     while stream:
         kind = chr(stream[0])
-        if kind not in KINDS[side]:
+        if kind not in lengths:
             return found, 40
         if len(stream) < 5:
             return found, 42
         length = int.from_bytes(stream[1:5], "big")
         if length > 65_536:
             return found, 41
-        if KINDS[side][kind] not in (None, length):
+        if lengths[kind] not in (None, length):
             return found, 45
         if len(stream) < 5 + length:
             return found, 42
@@ -512,7 +470,7 @@ def messages(side: str, stream: bytes) -> Tuple[List[Tuple[str, bytes]], Optiona
 
 
 # ---- commands
-def main(words: List[str]) -> None:
+def main(words: list[str]) -> None:
     try:
         if words[:1] == ["run"]:
             sys.stdout.write(table(plan_of(sys.stdin.buffer.read())))

@@ -1,20 +1,35 @@
 """The watermarks that do best in a table."""
-from __future__ import annotations
-
-from dataclasses import dataclass
-from typing import Callable, Iterator
+from operator import attrgetter
+from typing import Callable, Iterator, NamedTuple
 
 from .plans import Refused
-from .tables import Line, Share, Table, shown
+from .tables import Line, Share, Table, grouped, shown
 
 Pair = tuple[int, int, int]
 # What may have a limit: whether that is the most, and what it is a share of.
 LIMITED = (("conflicts", True, "receivers"), ("silent", True, "receivers"), ("right", False, "trials"))
 
 
-@dataclass(frozen=True)
-class Limits:
-    """What a pair must keep to, by the bounds of its worst line."""
+class Worst(NamedTuple):
+    """A pair of watermarks by its worst line in each respect, over all numbers of failed processes but none."""
+
+    pair: Pair
+    ppm: int
+    conflicts: Share
+    proposals: Share
+    silent: Share
+    right: Share
+    wrong: int
+
+    def __str__(self) -> str:
+        k, h, l = self.pair
+        wrong = f"; in {self.wrong} trials a quorum agreed on a wrong set" if self.wrong else ""
+        conflicts = f"{self.conflicts} of receivers ({self.ppm} ppm), {shown(self.proposals.share)} of proposals"
+        return f"K = {k}, H = {h}, L = {l}: conflicts {conflicts}; silent {self.silent}; right {self.right} of trials{wrong}"
+
+
+class Limits(NamedTuple):
+    """What a pair must keep to, by its worst lines."""
 
     conflicts: float | None
     silent: float | None
@@ -30,46 +45,19 @@ class Limits:
                 yield said, over / max(under, 1e-9), over > under
 
     def lacks(self, it: Worst) -> list[str]:
-        """What a pair lacks, in words, with how far it is from it."""
         return [said for said, _, is_lacking in self.compared(it) if is_lacking]
 
     def distance(self, it: Worst) -> float:
-        """How far a pair is from what it must keep to, in parts of it."""
         return max((parts for _, parts, _ in self.compared(it)), default=0.0)
 
 
-@dataclass(frozen=True)
-class Worst:
-    """A pair of watermarks by its worst line in each respect, over all numbers of failed processes but none."""
-
-    pair: Pair
-    ppm: int
-    conflicts: Share
-    proposals: Share
-    silent: Share
-    right: Share
-    wrong: int
-
-    def __str__(self) -> str:
-        k, h, l = self.pair
-        wrong = f"; in {self.wrong} trials a quorum agreed on a wrong set" if self.wrong else ""
-        return (
-            f"K = {k}, H = {h}, L = {l}: conflicts {self.conflicts} of receivers ({self.ppm} ppm), "
-            f"{shown(self.proposals.share)} of proposals; silent {self.silent}; right {self.right} of trials{wrong}"
-        )
-
-
 def worst_of(pair: Pair, lines: list[Line]) -> Worst:
-    proposals = [it.share("proposal") for it in lines if it.receivers > it.silent]
-    return Worst(
-        pair,
-        max(it.ppm for it in lines),
-        max((it.share("conflict") for it in lines), key=lambda it: it.share),
-        max(proposals, key=lambda it: it.share) if proposals else Share(1.0, 0.0, 1.0, 0),
-        max((it.share("silent") for it in lines), key=lambda it: it.share),
-        min((it.share("right") for it in lines), key=lambda it: it.share),
-        sum(it.decided - it.right for it in lines),
-    )
+    by_share = attrgetter("share")
+    conflicts, silent = (max((it.share(name) for it in lines), key=by_share) for name in ("conflict", "silent"))
+    right = min((it.share("right") for it in lines), key=by_share)
+    proposals = [it.share("proposal") for it in lines if it.receivers > it.silent] or [Share(1.0, 0.0, 1.0, 0)]
+    ppm, wrong = max(it.ppm for it in lines), sum(it.decided - it.right for it in lines)
+    return Worst(pair, ppm, conflicts, max(proposals, key=by_share), silent, right, wrong)
 
 
 # What the pairs are sorted by: the first is best.
@@ -78,24 +66,17 @@ ORDERS: dict[str, Callable[[Worst], tuple[float, ...]]] = {
     "right": lambda it: (-it.right.share, it.proposals.share, it.silent.share),
     "silent": lambda it: (it.silent.share, it.proposals.share, -it.right.share),
 }
-NARROW = (
-    "  H = K: one lost alert, or one observer that raises none, stops every proposal. This model loses no alert, so no number "
-    "here shows it. Take at most H = K - 1."
-)
+NARROW = "  H = K: one lost alert, or one observer that raises none, stops every proposal. "
+NARROW += "This model loses no alert, so no number here shows it. Take at most H = K - 1."
 
 
 def said_of(it: Worst) -> list[str]:
-    """What is printed of a pair."""
     return [str(it), NARROW] if it.pair[1] == it.pair[0] else [str(it)]
 
 
 def choose(table: Table, limits: Limits, order: str, best: int) -> tuple[set[Pair], list[str]]:
-    """The best pairs for each number of rings, and what is said of them; where none keeps to the limits it is refused, with
-    the nearest."""
-    pairs: dict[Pair, list[Line]] = {}
-    for it in table.lines:
-        if it.f > 0:
-            pairs.setdefault((it.k, it.h, it.l), []).append(it)
+    """The best pairs for each number of rings, and what is said of them; where there are none, the nearest is."""
+    pairs = grouped(table.failing, lambda it: it.cell[:3])
     if not pairs:
         why = "it has only cells in which nobody fails, and no pair is better than another there"
         raise Refused(f"{table.name}: {why}")

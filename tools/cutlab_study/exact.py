@@ -1,14 +1,11 @@
 """The exact columns of a plan's cells, where every order of the alerts at a receiver is equally likely."""
-from __future__ import annotations
-
 import math
 import statistics
 from collections import Counter
-from dataclasses import dataclass
 from fractions import Fraction
 from functools import lru_cache
 from itertools import product
-from typing import Iterator, Sequence
+from typing import Iterator, NamedTuple, Sequence
 
 from .plans import Cell, Plan, cells, quorum, reference
 from .shares import Kind, Proposed, Rule, Shares, World
@@ -18,10 +15,8 @@ from .tables import Table, check_fits
 MOST_STEPS, LEAST_STEPS = 2 * 10**9, 10**5
 
 
-@dataclass(frozen=True)
-class Columns:
-    """The chances of a receiver that it is in conflict, silent, or proposes one that did not fail, and of a trial that it is
-    decided, and decided by the failed ones alone."""
+class Columns(NamedTuple):
+    """The chances of a receiver's verdicts, and of a trial that it is decided, and decided by the failed ones alone."""
 
     conflicts: Fraction
     silent: Fraction
@@ -60,7 +55,6 @@ def proposals_of(world: World, rule: Rule) -> tuple[Proposed, ...]:
 
 
 def columns_of(world: World, rule: Rule, receivers: int, least: int) -> Columns:
-    """The columns of a world, for as many receivers and a quorum."""
     targets = sum(number for kind, number in world.kinds if kind.is_target)
     spoken = conflicts = extra = Fraction(0)
     decided = right = 0.0
@@ -75,6 +69,11 @@ def columns_of(world: World, rule: Rule, receivers: int, least: int) -> Columns:
         decided += it.ways * agreed
         right += 0.0 if lacks or adds else agreed
     return Columns(conflicts, 1 - spoken, extra, decided, right)
+
+
+def crash_share(k: int, h: int, l: int, f: int) -> Fraction:
+    """The share of conflicts where so many processes crash, and all of their alerts come."""
+    return columns_of(World(((Kind(k, True), f),)), Rule(h, l), 1, 1).conflicts
 
 
 def world_of(plan: Plan, layout: reference.Layout, roles: reference.Roles, cell: Cell) -> World:
@@ -107,17 +106,8 @@ def needs_no_roles(plan: Plan) -> bool:
     return not (plan["implicit"] or plan["liars"] or plan["links"] or deaf) and plan["dead"] == "speak"
 
 
-def mean(found: Sequence[Columns]) -> Columns:
-    rows = [(it.conflicts, it.silent, it.extra) for it in found]
-    conflicts, silent, extra = (sum(its, Fraction(0)) / len(found) for its in zip(*rows))
-    decided, right = (statistics.fmean(its) for its in zip(*((it.decided, it.right) for it in found)))
-    return Columns(conflicts, silent, extra, decided, right)
-
-
-@dataclass(frozen=True)
-class CellColumns:
-    """A cell with its columns, and the mean of how many trials' roles they are: none where they don't depend on roles. In place of
-    the columns of a cell that would take too long there is what is said of it."""
+class CellColumns(NamedTuple):
+    """A cell with its columns, and of how many trials' roles they are the mean; where it would take too long, why."""
 
     cell: Cell
     columns: Columns | None
@@ -126,7 +116,6 @@ class CellColumns:
 
 
 def worlds_of(plan: Plan, layout: reference.Layout, number: int, count: int) -> list[World]:
-    """The worlds of the first trials of a cell."""
     cell, first = cells(plan)[number], number * plan["repeats"]
     sources = (reference.Source(plan, trial) for trial in range(first, first + count))
     return [world_of(plan, layout, reference.Roles(plan, cell[3], it, layout), cell) for it in sources]
@@ -135,36 +124,32 @@ def worlds_of(plan: Plan, layout: reference.Layout, number: int, count: int) -> 
 def exact(plan: Plan, trials: int | None = None) -> Iterator[CellColumns]:
     """The columns of each cell of a plan, by the roles of its first `trials` trials, or of all."""
     nodes, least = plan["nodes"], quorum(plan["nodes"])
-    free, layout = needs_no_roles(plan), None
+    layout = None if needs_no_roles(plan) else reference.layout_of(plan)
     for number, cell in enumerate(cells(plan)):
         k, h, l, f = cell
         rule = Rule(h, l)
-        if free:
+        if layout is None:
             worlds = [World(((Kind(k, True), f),) if f else ())]
         else:
-            layout = layout or reference.layout_of(plan)
             worlds = worlds_of(plan, layout, number, min(plan["repeats"], trials or plan["repeats"]))
-        steps, count = max(steps_of(it, rule) for it in worlds), 0 if free else len(worlds)
+        steps, count = max(steps_of(it, rule) for it in worlds), 0 if layout is None else len(worlds)
         if steps > MOST_STEPS:
             why = f"as {max(it.singles for it in worlds)} processes observe one another"
             yield CellColumns(cell, None, count, f"about {steps:.0e} products would be added up, {why}")
         else:
-            yield CellColumns(cell, mean([columns_of(it, rule, nodes - f, least) for it in worlds]), count)
+            found = [columns_of(it, rule, nodes - f, least) for it in worlds]
+            yield CellColumns(cell, Columns._make(map(statistics.mean, zip(*found))), count)
 
 
 def ladder(k: int, failures: Sequence[int]) -> list[tuple[int, int, int, Fraction]]:
     """H, L, F and the share of conflicts of each pair of watermarks of K rings, the rarest conflicts first by the worst F."""
-    found = [
-        [(h, l, f, columns_of(World(((Kind(k, True), f),)), Rule(h, l), 1, 1).conflicts) for f in failures]
-        for h in range(1, k + 1)
-        for l in range(1, h + 1)
-    ]
+    pairs = [(h, l) for h in range(1, k + 1) for l in range(1, h + 1)]
+    found = [[(h, l, f, crash_share(k, h, l, f)) for f in failures] for h, l in pairs]
     return [row for rows in sorted(found, key=lambda its: max(row[3] for row in its)) for row in rows]
 
 
 def chance_of_more(square_sum: float, count: int) -> float:
-    """How often the squares of `count` normal variables add up to more than this: from that of one or of two variables on,
-    each two more add one term."""
+    """How often the squares of `count` normal variables add up to more than this: each two more add one term."""
     x = square_sum / 2
     found, a = (math.erfc(math.sqrt(x)), 0.5) if count % 2 else (math.exp(-x), 1.0)
     for more in range(count // 2 if count % 2 else count // 2 - 1):
@@ -190,7 +175,5 @@ def beside(plan: Plan, table: Table) -> Iterator[str]:
         if min(share, 1 - share) * line.receivers >= 5:
             squares, count = squares + distance**2, count + 1
     if count:
-        yield (
-            f"sum of squares {squares:.1f} over {count} lines that expect 5 conflicts or more; chance gives more in "
-            f"{100 * chance_of_more(squares, count):.0f} of 100 studies"
-        )
+        what = f"sum of squares {squares:.1f} over {count} lines that expect 5 conflicts or more"
+        yield f"{what}; chance gives more in {100 * chance_of_more(squares, count):.0f} of 100 studies"

@@ -1,18 +1,15 @@
 """Plans, read and judged as the reference does."""
-from __future__ import annotations
-
 import shutil
 import sys
 from pathlib import Path
 
 from cutlab_tools.paths import reference
 from cutlab_tools.plans import Plan, text_of
-from cutlab_tools.program import Program
+from cutlab_tools.program import Ended, Program
 
 __all__ = ["Cell", "Plan", "Refused", "cells", "plan_of", "quorum", "read_plan", "read_text", "reference", "text_of"]
 
 Cell = reference.Cell
-# How many equal proposals decide, and the cells of a plan, are what the definitions say.
 cells, quorum = reference.cells, reference.quorum
 # The program on the PATH.
 CUTLAB = Program(Path("cutlab"))
@@ -27,28 +24,18 @@ def read_text(path: str) -> bytes:
     if path == "-":
         return sys.stdin.buffer.read()
     try:
-        with open(path, "rb") as file:
-            return file.read()
+        return Path(path).read_bytes()
     except OSError as why:
         raise Refused(f"{path}: {why.strerror}") from None
 
 
-def explained(text: bytes, fault: reference.Fault) -> str:
-    """What `cutlab explain` says of a refused plan; the fault's line alone where the program is not on the PATH."""
-    if shutil.which("cutlab"):
-        output, errors, _ = CUTLAB.run("explain", text=text)
-        if output or errors:
-            return (output + errors).rstrip("\n")
-    return str(fault)
-
-
 def plan_of(text: bytes) -> Plan:
-    """The plan of a text."""
+    """The plan of a text; of another `cutlab explain` says why it is none, or the fault's line where that is not on the PATH."""
     try:
-        plan: Plan = reference.plan_of(text)
+        return reference.plan_of(text)
     except reference.Fault as fault:
-        raise Refused(explained(text, fault)) from None
-    return plan
+        output, errors, _ = CUTLAB.run("explain", text=text) if shutil.which("cutlab") else Ended()
+        raise Refused((output + errors).rstrip("\n") or str(fault)) from None
 
 
 def read_plan(path: str) -> Plan:

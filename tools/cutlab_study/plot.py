@@ -1,18 +1,12 @@
 """Pictures of tables, by gnuplot."""
-from __future__ import annotations
-
-import csv
-import io
 import os
 import shutil
 import subprocess
-from dataclasses import dataclass, field
-from typing import Iterable, Mapping
+from typing import Iterable, Mapping, NamedTuple
 
-from .exact import columns_of, needs_no_roles
-from .plans import Plan, Refused, cells, read_text
-from .shares import Kind, Rule, World
-from .tables import Line, Table, check_fits, table_of
+from .exact import crash_share, needs_no_roles
+from .plans import Plan, Refused, cells
+from .tables import Table, check_fits, grouped, rows_in
 
 TERMINALS = {
     ".svg": 'svg size {width},{height} font "sans-serif,16" background "white"',
@@ -20,32 +14,26 @@ TERMINALS = {
     ".pdf": "pdfcairo size {inches_wide}in,{inches_high}in",
 }
 COLOURS = ("#000000", "#c03000", "#2060c0", "#808080", "#208020", "#8020a0", "#b08000", "#009090")
-# A logarithmic scale of percents, at whose foot stands what is none, from a mark on; and a linear one.
-LOGARITHMIC = 'set logscale y\nset yrange [{}:100]\nset ytics ("none" {}, {}, "1" 1, "10" 10, "100" 100)'
 LINEAR = "set yrange [-3:103]\nset ytics 20"
-# The points of a line: at a place, a share in percent; and the sums of which shares are drawn.
-Points = list[tuple[int, float]]
+Points = list[tuple[int, float]]  # at a place, a share in percent
 SUMS = ("receivers", "silent", "conflicts")
 
 
 def logarithmic(low: str, foot: str, *marks: str) -> str:
-    return LOGARITHMIC.format(low, foot, ", ".join(f'"{it}" {it}' for it in marks))
+    """A scale of percents, at whose foot stands what is none."""
+    shown = ", ".join(f'"{it}" {it}' for it in (*marks, "1", "10", "100"))
+    return f'set logscale y\nset yrange [{low}:100]\nset ytics ("none" {foot}, {shown})'
 
 
 def points(places: Iterable[tuple[int, list[int]]], part: str, foot: float) -> Points:
-    """The points of a line: of places with their sums conflicts of those that proposed, not below the foot of a scale, or
-    silent ones of all."""
-    found: Points = []
-    for at, (receivers, silent, conflicts) in places:
-        if part == "silent":
-            found.append((at, 100 * silent / receivers))
-        elif receivers > silent:
-            found.append((at, max(100 * conflicts / (receivers - silent), foot)))
-    return found
+    """Of places with their sums: conflicts of those that proposed, not below the foot of a scale, or silent ones of all."""
+    if part == "silent":
+        return [(at, 100 * silent / receivers) for at, (receivers, silent, _) in places]
+    proposed = [(at, receivers - silent, conflicts) for at, (receivers, silent, conflicts) in places]
+    return [(at, max(100 * conflicts / count, foot)) for at, count, conflicts in proposed if count]
 
 
 def curves(lines: Mapping[str, Points], is_dashed: bool) -> list[str]:
-    """The commands that draw lines, by their titles."""
     blocks, plots = [], []
     for number, (title, its) in enumerate(lines.items()):
         if its:
@@ -60,18 +48,13 @@ def curves(lines: Mapping[str, Points], is_dashed: bool) -> list[str]:
 def panel(table: Table, k: int, part: str) -> list[str]:
     """The commands of one panel: a line for each number of failed processes."""
     lines: dict[str, Points] = {}
-    for f in sorted({it.f for it in table.lines if it.k == k and it.f > 0}):
-        groups: dict[int, list[Line]] = {}
-        for it in table.lines:
-            if (it.k, it.f) == (k, f):
-                groups.setdefault(it.h - it.l if part == "conflicts" else it.l, []).append(it)
-        sums = [(at, [sum(getattr(it, name) for it in its) for name in SUMS]) for at, its in sorted(groups.items())]
+    for f, of_f in grouped((it for it in table.failing if it.k == k), lambda it: it.f).items():
+        places = grouped(of_f, lambda it: it.h - it.l if part == "conflicts" else it.l)
+        sums = [(at, [sum(getattr(it, name) for it in its) for name in SUMS]) for at, its in places.items()]
         lines[f"F = {f}"] = points(sums, part, 1e-3)
-    if part == "conflicts":
-        scale, what = logarithmic("0.001", "0.001", "0.01", "0.1"), "Conflicts, % of those that proposed, by H - L"
-    else:
-        scale, what = f"unset logscale y\n{LINEAR}", "Silent, % of all receivers, by L"
-    return [scale, f'set title "K = {k}: {what}"', *curves(lines, False)]
+    whats = {"conflicts": "Conflicts, % of those that proposed, by H - L", "silent": "Silent, % of all receivers, by L"}
+    scale = logarithmic("0.001", "0.001", "0.01", "0.1") if part == "conflicts" else f"unset logscale y\n{LINEAR}"
+    return [scale, f'set title "K = {k}: {whats[part]}"', *curves(lines, False)]
 
 
 def draw(picture: str, commands: list[str], width: int, height: int) -> None:
@@ -96,29 +79,27 @@ def check_lines(name: str, what: str, count: int) -> None:
 
 
 def plot_gaps(table: Table, picture: str) -> None:
-    """Draws a table: for each K the conflicts by H - L and the silence by L, with a line for each F."""
-    rings = sorted({it.k for it in table.lines if it.f > 0})
+    """Draws for each K the conflicts by H - L and the silence by L, with a line for each F."""
+    rings = sorted({it.k for it in table.failing})
     if not rings:
         raise Refused(f"{table.name}: nobody fails in any of its cells, so there are no conflicts to draw")
-    check_lines(table.name, "f", len({it.f for it in table.lines if it.f > 0}))
+    check_lines(table.name, "f", len({it.f for it in table.failing}))
     panels = [command for k in rings for part in ("conflicts", "silent") for command in panel(table, k, part)]
     first = [f"set multiplot layout {2 * len(rings)},1", "set xtics 1", "set offsets 0.3, 0.3, 0, 0"]
     draw(picture, [*first, *panels, "unset multiplot"], 520, 410 * 2 * len(rings))
 
 
-@dataclass(frozen=True)
-class View:
+class View(NamedTuple):
     """What is drawn of a table: a share, along a column, with a line for each value of another, where others have a value."""
 
     part: str
     along: str
     each: str
-    where: dict[str, str] = field(default_factory=dict)
+    where: dict[str, str]
 
 
 def rows_of(name: str, text: bytes, view: View) -> list[dict[str, str]]:
-    """The rows of a table that are drawn."""
-    rows = list(csv.DictReader(io.StringIO(text.decode(errors="replace"))))
+    rows = rows_in(text)
     columns = (view.along, view.each, *view.where, "receivers", "silent", "conflicts")
     lacking = [it for it in columns if not rows or it not in rows[0]]
     if lacking:
@@ -128,8 +109,8 @@ def rows_of(name: str, text: bytes, view: View) -> list[dict[str, str]]:
         where = ", ".join(f"{it} is {value}" for it, value in view.where.items())
         raise Refused(f"{name}: no line is left where {where}")
     if len({(row[view.along], row[view.each]) for row in found}) < len(found):
-        both = f"one {view.along} and one {view.each}"
-        raise Refused(f"{name}: some lines have {both}; say by --where which of them are drawn")
+        what = f"some lines have one {view.along} and one {view.each}"
+        raise Refused(f"{name}: {what}; say by --where which of them are drawn")
     return found
 
 
@@ -154,23 +135,19 @@ def plot_along(name: str, text: bytes, picture: str, view: View) -> None:
 
 
 def plot_rare(plan: Plan, table: Table, picture: str) -> None:
-    """Draws the exact shares of conflicts over F, a curve for each K, H and L of a plan, and on them the shares of its
-    table, with bars for their bounds."""
+    """Draws the exact shares of conflicts over F, a curve for each K, H and L, and on them the table's with their bounds."""
     check_fits(plan, table)
     if not needs_no_roles(plan):
-        raise Refused(
-            "curves are drawn of crashes alone, whose observers speak, without implicit alerts: of other plans each trial "
-            "has shares of its own"
-        )
-    pairs = list(dict.fromkeys((k, h, l) for k, h, l, _ in cells(plan)))
+        what = "crashes alone, whose observers speak, without implicit alerts"
+        raise Refused(f"curves are drawn of {what}: of other plans each trial has shares of its own")
+    pairs = list(dict.fromkeys(cell[:3] for cell in cells(plan)))
     failures = [f for f in plan["f"] if f > 1]
     if len(pairs) > len(COLOURS) or not failures:
         raise Refused(f"at most {len(COLOURS)} curves are drawn, over two failed processes or more")
     blocks, plots = [], []
     for number, ((k, h, l), colour) in enumerate(zip(pairs, COLOURS)):
-        exact = [(f, float(columns_of(World(((Kind(k, True), f),)), Rule(h, l), 1, 1).conflicts)) for f in failures]
-        lines = [it for it in table.lines if (it.k, it.h, it.l) == (k, h, l) and it.conflicts]
-        counted = [(it.f, it.share("conflict")) for it in lines]
+        exact = [(f, float(crash_share(k, h, l, f))) for f in failures]
+        counted = [(it.f, it.share("conflict")) for it in table.lines if it.cell[:3] == (k, h, l) and it.conflicts]
         rows = "\n".join(f"{f} {share}" for f, share in exact if share)
         marks = "\n".join(f"{f} {it.share} {it.low} {it.high}" for f, it in counted) or "1 NaN NaN NaN"
         blocks += [f"$exact{number} << EOD\n{rows}\nEOD", f"$counted{number} << EOD\n{marks}\nEOD"]
@@ -181,12 +158,3 @@ def plot_rare(plan: Plan, table: Table, picture: str) -> None:
     first += ["set yrange [1e-14:1]", 'set format y "10^{%T}"', "set termoption enhanced"]
     first += ['set xlabel "failed processes"', f"set xtics ({', '.join(map(str, failures))})"]
     draw(picture, [*first, *blocks, "plot " + ", ".join(plots)], 620, 640)
-
-
-def plot(path: str, picture: str, view: View | None) -> None:
-    """Draws the table of a file."""
-    text = read_text(path)
-    if view is None:
-        plot_gaps(table_of(path, text), picture)
-    else:
-        plot_along(path, text, picture, view)

@@ -1,6 +1,4 @@
 """A table as one page of HTML, which needs no network and no scripts: report.html with what is found."""
-from __future__ import annotations
-
 import json
 import math
 from fractions import Fraction
@@ -11,17 +9,13 @@ from string import Template
 from .choose import Limits, Pair, choose
 from .exact import exact
 from .plans import Cell, Plan, Refused
-from .tables import Line, Share, Table, check_fits, shown
+from .tables import Line, Table, check_fits, grouped, shown
 
 WIDE, HIGH, LEFT, TOP = 172, 104, 64, 34
-# The rarest share that has a shade of its own.
-RAREST = 1e-6
-# The lightest and the darkest shade, as red, green and blue.
-LIGHT, DARK = (255, 247, 230), (150, 20, 20)
-PREMISE = (
-    "The exact share holds where every order of the alerts at a receiver is equally likely. That the draws behave so is what "
-    "the comparison shows; no proof says it."
-)
+# The rarest share that has a shade of its own; the lightest and the darkest shade, as red, green and blue.
+RAREST, LIGHT, DARK = 1e-6, (255, 247, 230), (150, 20, 20)
+PREMISE = "The exact share holds where every order of the alerts at a receiver is equally likely. "
+PREMISE += "That the draws behave so is what the comparison shows; no proof says it."
 
 
 def colour(share: float) -> tuple[str, str]:
@@ -44,27 +38,23 @@ def svg(wide: int, high: int, label: str, parts: list[str]) -> str:
     return f'<div class="wide"><svg {box} role="img" aria-label="{label}">{"".join(parts)}</svg></div>'
 
 
-def bounds(share: Share) -> str:
-    return f"[{shown(share.low)}, {shown(share.high)}]"
-
-
 def field(it: Line, x: int, y: int, known: Fraction | None, is_chosen: bool) -> str:
     """A field of a grid: its shade is the share of conflicts, its letters that, silence and right ones with their bounds."""
     conflicts, silent, right = (it.share(name) for name in ("conflict", "silent", "right"))
     shade, ink = colour(conflicts.share)
-    rows = [f"conflicts {shown(conflicts.share)}", bounds(conflicts)]
+    rows = [f"conflicts {shown(conflicts.share)}", conflicts.bounds]
     rows += [] if known is None else [f"exact {shown(float(known))}"]
-    rows += [f"{name} {shown(its.share)} {bounds(its)}" for name, its in (("silent", silent), ("right", right))]
-    kinds = [f' class="{ink} {"small" if at else ""}"' for at in range(len(rows))]
-    texts = [text(x + 6, y + 20 + 18 * at, row, kind) for at, (row, kind) in enumerate(zip(rows, kinds))]
-    mark = [rect(x + 2, y + 2, WIDE - 4, HIGH - 4, 'class="chosen"')] if is_chosen else []
+    rows += [f"{name} {shown(its.share)} {its.bounds}" for name, its in (("silent", silent), ("right", right))]
     title = f"H = {it.h}, L = {it.l}: {it.conflicts} conflicts of {it.receivers} receivers, {it.ppm} ppm"
-    parts = [f"<title>{title}</title>", rect(x, y, WIDE, HIGH, f'fill="{shade}"'), *texts, *mark]
+    parts = [f"<title>{title}</title>", rect(x, y, WIDE, HIGH, f'fill="{shade}"')]
+    for at, row in enumerate(rows):
+        parts.append(text(x + 6, y + 20 + 18 * at, row, f' class="{ink} {"small" if at else ""}"'))
+    parts += [rect(x + 2, y + 2, WIDE - 4, HIGH - 4, 'class="chosen"')] if is_chosen else []
     return f"<g>{''.join(parts)}</g>"
 
 
 def grid(lines: list[Line], known: dict[Cell, Fraction], chosen: set[Pair]) -> str:
-    """The grid of H by L for one number of rings and of failed processes."""
+    """The fields of one number of rings and of failed processes, by H and L."""
     highs, lows = sorted({it.h for it in lines}, reverse=True), sorted({it.l for it in lines})
     columns = {l: LEFT + WIDE * at for at, l in enumerate(lows)}
     rows = {h: TOP + HIGH * at for at, h in enumerate(highs)}
@@ -77,7 +67,6 @@ def grid(lines: list[Line], known: dict[Cell, Fraction], chosen: set[Pair]) -> s
 
 
 def scale() -> str:
-    """The scale of the shades."""
     shares, how = (0.0, 1e-5, 1e-4, 1e-3, 1e-2, 1e-1, 1.0), ' text-anchor="middle" class="small"'
     fields = [rect(70 * at, 0, 70, 22, f'fill="{colour(it)[0]}"') for at, it in enumerate(shares)]
     fields += [text(70 * at + 35, 38, shown(it), how) for at, it in enumerate(shares)]
@@ -85,38 +74,28 @@ def scale() -> str:
 
 
 def row(it: Line) -> str:
-    """A line of the table, for who reads no pictures."""
     cells = [*it.cell, *(it.share(name) for name in ("conflict", "silent", "right")), it.decided - it.right]
     return f"<tr>{''.join(f'<td>{escape(str(cell))}</td>' for cell in cells)}</tr>"
 
 
-def exact_shares(plan: Plan, trials: int) -> tuple[dict[Cell, Fraction], str]:
-    """The exact shares of conflicts of the cells that don't take too long, and what is said of them."""
-    found = list(exact(plan, trials))
-    known = {it.cell: it.columns.conflicts for it in found if it.columns is not None}
-    roles, left = max(it.trials for it in found), len(found) - len(known)
-    said = [PREMISE] if known else []
-    said += [f"It is by the roles of {roles} trials of each cell."] if roles and known else []
-    return known, " ".join(said + ([f"{left} cells have none, as it would take too long."] if left else []))
-
-
 def page(plan: Plan, table: Table, limits: Limits, trials: int) -> str:
-    """The page of a plan and its table."""
     check_fits(plan, table)
-    known, of_exact = exact_shares(plan, trials)
+    columns = list(exact(plan, trials))
+    known = {it.cell: it.columns.conflicts for it in columns if it.columns is not None}
+    roles, left = max(it.trials for it in columns), len(columns) - len(known)
+    of_exact = [PREMISE] if known else []
+    of_exact += [f"It is by the roles of {roles} trials of each cell."] if roles and known else []
+    of_exact += [f"{left} cells have none, as it would take too long."] if left else []
     try:
         chosen, said = choose(table, limits, "conflicts", 1)
     except Refused as why:
         chosen, said = set(), [str(why)]
-    groups: dict[tuple[int, int], list[Line]] = {}
-    for it in table.lines:
-        if it.f > 0:
-            groups.setdefault((it.k, it.f), []).append(it)
+    groups = grouped(table.failing, lambda it: (it.k, it.f))
     found = {
         "scale": scale(),
         "choice": "".join(f"<li>{escape(it.strip())}</li>" for it in said),
-        "exact": escape(of_exact),
-        "grids": "".join(grid(lines, known, chosen) for _, lines in sorted(groups.items())),
+        "exact": escape(" ".join(of_exact)),
+        "grids": "".join(grid(lines, known, chosen) for lines in groups.values()),
         "lines": "\n".join(map(row, table.lines)),
         "plan": escape(",\n ".join(f'"{name}": {json.dumps(value)}' for name, value in plan.items())),
     }

@@ -15,16 +15,13 @@ integral of f_S(v) B_R(v), where B_R(v) is the chance that none of R is reported
 All of these are polynomials. In powers u^n / n! they have whole coefficients, so the chances are exact fractions.
 
 Processes of one kind are taken by number. With implicit alerts a process needs fewer alerts of its own, the more of its
-observers are in the proposed set; processes that observe one another are then taken one by one.
-"""
-from __future__ import annotations
-
-from dataclasses import dataclass
+observers are in the proposed set; processes that observe one another are then taken one by one."""
 from fractions import Fraction
+from collections import Counter
 from functools import lru_cache, reduce
 from itertools import accumulate, product
 from math import comb, factorial, lcm, prod
-from typing import Iterable, Iterator, Sequence
+from typing import Iterable, Iterator, NamedTuple, Sequence
 
 # A polynomial in one variable: the coefficient of each power. In two, those of v^a (u - v)^(b - a), by (a, b).
 Polynomial = dict[int, int]
@@ -35,16 +32,14 @@ Table = dict[tuple[int, ...], int]
 Counts = tuple[int, ...]
 
 
-@dataclass(frozen=True)
-class Rule:
+class Rule(NamedTuple):
     """The watermarks: a process is reported with L alerts, and stable with H."""
 
     h: int
     l: int
 
 
-@dataclass(frozen=True)
-class Need:
+class Need(NamedTuple):
     """What a process of a proposed set needs to be stable there: of its alerts, `inner` come from observers in the set, whose
     rings count anyway, and of the others it needs `outer`; it needs L of all."""
 
@@ -57,21 +52,20 @@ Needs = tuple[tuple[Need, int], ...]
 
 
 def times(one: Polynomial, other: Polynomial) -> Polynomial:
-    found: Polynomial = {}
+    found: Polynomial = Counter()
     for (a, x), (b, y) in product(one.items(), other.items()):
-        found[a + b] = found.get(a + b, 0) + x * y
+        found[a + b] += x * y
     return found
 
 
 def product_of(factors: Iterable[Iterable[tuple[int, int]]]) -> Polynomial:
-    """The product of polynomials, which are given by their coefficients."""
     return reduce(times, (dict(it) for it in factors), {0: 1})
 
 
 def times_on(one: Surface, other: Surface) -> Surface:
-    found: Surface = {}
+    found: Surface = Counter()
     for ((a, b), x), ((c, d), y) in product(one.items(), other.items()):
-        found[a + c, b + d] = found.get((a + c, b + d), 0) + x * y
+        found[a + c, b + d] += x * y
     return {key: value for key, value in found.items() if value}
 
 
@@ -124,18 +118,15 @@ def unreported_then_stable(need: Need, l: int) -> tuple[tuple[tuple[int, int], i
     outer, inner = need.alerts - need.inner, need.inner
     table: Table = {
         (i, j, m, n): int(i + m < l <= i + j + m + n and i + j >= need.outer)
-        for i in range(outer + 1)
-        for j in range(outer - i + 1)
-        for m in range(inner + 1)
-        for n in range(inner - m + 1)
+        for i, m in product(range(outer + 1), range(inner + 1))
+        for j, n in product(range(outer - i + 1), range(inner - m + 1))
     }
     for axis in range(4):
         table = folded(table, axis)
-    found: Surface = {}
+    found: Surface = Counter()
     for (a, c, d, e), change in table.items():
-        key = (a + d, a + d + c + e)
-        found[key] = found.get(key, 0) + choices(outer, a, c) * choices(inner, d, e) * change
-    return tuple((key, value) for key, value in found.items() if value)
+        found[a + d, a + d + c + e] += choices(outer, a, c) * choices(inner, d, e) * change
+    return tuple(it for it in found.items() if it[1])
 
 
 @lru_cache(maxsize=4096)
@@ -146,8 +137,7 @@ def power(need: Need, l: int, exponent: int) -> Surface:
     return times_on(power(need, l, exponent - 1), dict(unreported_then_stable(need, l)))
 
 
-@dataclass(frozen=True, order=True)
-class Kind:
+class Kind(NamedTuple):
     """Processes that are alike: this many alerts come of each, and each is one of the failed ones or not. A process that
     others observe which may be proposed is a kind by itself: of each ring it is known which of the world's kinds observes it
     there, if one does, and whether its alert comes. So is one that observes others."""
@@ -162,18 +152,15 @@ class Kind:
         return Need(self.alerts, sum(inside), max(0, h - len(inside)))
 
 
-@dataclass(frozen=True)
-class World:
+class World(NamedTuple):
     """The processes of which alerts come to a receiver: kinds with their numbers, those taken one by one at the end."""
 
     kinds: tuple[tuple[Kind, int], ...]
     singles: int = 0
 
 
-@dataclass(frozen=True)
-class Proposed:
-    """A proposal: how many of each kind it has, in how many ways these can be chosen, and the share of the orders in which
-    one such set is proposed."""
+class Proposed(NamedTuple):
+    """How many of each kind it has, in how many ways these can be chosen, and in what share of the orders one is proposed."""
 
     counts: Counts
     ways: int
@@ -182,10 +169,6 @@ class Proposed:
 
 def below(counts: Counts) -> Iterator[Counts]:
     return product(*(range(count + 1) for count in counts))
-
-
-def ways_to_choose(numbers: Counts, counts: Counts) -> int:
-    return prod(map(comb, numbers, counts))
 
 
 class Shares:
@@ -203,11 +186,6 @@ class Shares:
         """What some processes need in a set of these members, and how many of each kind they are."""
         kinds = zip(self.world.kinds, counts)
         return tuple((kind.need(self.rule.h, members), count) for (kind, _), count in kinds if count)
-
-    def all_stable(self, members: Counts) -> Polynomial:
-        """The chance that each process of a set is stable by u."""
-        needs = self.needs(members, members)
-        return product_of(stable(need, self.rule.l) for need, count in needs for _ in range(count))
 
     def integrals(self, needs: Needs) -> dict[int, list[int]]:
         """For processes none of which is reported at v, and each of which is stable at u: for each power b of that chance,
@@ -228,33 +206,31 @@ class Shares:
         """The density with which a receiver that hears of a set alone proposes all of it, by powers u^p / p!."""
         if members in self.densities:
             return self.densities[members]
-        whole = {n: x * factorial(n) for n, x in self.all_stable(members).items()}
+        needs = self.needs(members, members)
+        all_stable = product_of(stable(need, self.rule.l) for need, count in needs for _ in range(count))
+        whole = Counter({n: x * factorial(n) for n, x in all_stable.items()})
         for part in below(members):
             earlier = self.density(part) if any(part) and part != members else {}
             if not earlier:
                 continue
             rest = tuple(count - its for count, its in zip(members, part))
-            needs, ways = self.needs(rest, members), ways_to_choose(members, part)
+            needs, ways = self.needs(rest, members), prod(map(comb, members, part))
             if needs not in self.sums:
                 self.sums[needs] = self.integrals(needs)
             for b, its in self.sums[needs].items():
                 for p, x in earlier.items():
-                    whole[p + b + 1] = whole.get(p + b + 1, 0) - ways * x * its[p]
+                    whole[p + b + 1] -= ways * x * its[p]
         found = self.densities[members] = {n - 1: x for n, x in whole.items() if x}
         return found
 
-    def none_reported(self, members: Counts) -> Polynomial:
-        """The chance that no process of the world is reported at v, but for those of a set."""
-        left = [(kind.alerts, number - count) for (kind, number), count in zip(self.world.kinds, members)]
-        return product_of(unreported(alerts, self.rule.l) for alerts, number in left for _ in range(number))
-
     def proposals(self) -> Iterator[Proposed]:
-        """Each proposal that a receiver may make."""
         for members in below(self.numbers):
             density = self.density(members) if any(members) else {}
             if not density:
                 continue
-            others = self.none_reported(members)
+            # The chance that no other process of the world is reported at v.
+            left = [(kind.alerts, number - count) for (kind, number), count in zip(self.world.kinds, members)]
+            others = product_of(unreported(alerts, self.rule.l) for alerts, number in left for _ in range(number))
             common = lcm(*range(1, max(density) + max(others) + 2))
             total = sum(
                 x * factorial(max(density)) // factorial(p) * y * (common // (p + d + 1))
@@ -262,4 +238,4 @@ class Shares:
             )
             share = Fraction(total, common * factorial(max(density)))
             if share:
-                yield Proposed(members, ways_to_choose(self.numbers, members), share)
+                yield Proposed(members, prod(map(comb, self.numbers, members)), share)

@@ -1,26 +1,29 @@
 """Tables that the program printed: their lines, shares with bounds, and sums."""
-from __future__ import annotations
-
 import csv
 import io
 import math
-from dataclasses import dataclass
+from itertools import groupby
+from typing import Any, Callable, Iterable, NamedTuple, TypeVar
 
 from .plans import Cell, Plan, Refused, cells, read_text
 
 COUNTS = ("trials", "receivers", "conflicts", "silent", "extra", "votes", "decided", "right", "settled")
+Key = TypeVar("Key", bound=Any)
 # The distance of the bounds of 95 %, in standard deviations.
 DISTANCE = 1.959964
 
 
-@dataclass(frozen=True)
-class Share:
+class Share(NamedTuple):
     """A share that was counted: of `of` unrelated tries, with the bounds between which the chance lies with 95 % (Wilson)."""
 
     share: float
     low: float
     high: float
     of: int
+
+    @property
+    def bounds(self) -> str:
+        return f"[{shown(self.low)}, {shown(self.high)}]"
 
     def __str__(self) -> str:
         return f"{shown(self.share)} ({shown(self.low)} to {shown(self.high)})"
@@ -44,10 +47,7 @@ def share_of(count: float, of: int, tries: int | None = None) -> Share:
     return Share(found, max(0.0, middle - half) if found > 0 else 0.0, min(1.0, middle + half) if found < 1 else 1.0, n)
 
 
-@dataclass(frozen=True)
-class Line:
-    """A line of a table: a cell with its sums."""
-
+class Line(NamedTuple):
     k: int
     h: int
     l: int
@@ -76,28 +76,37 @@ class Line:
 
     def share(self, what: str) -> Share:
         """A share: of all receivers, each of which has an order of its own, or of trials. Those of a trial share who fails
-        and who observes whom, so that for silence a trial is one try. A conflict may also be one of those that proposed.
-        """
-        receivers, trials = self.receivers, self.trials
-        counted: dict[str, tuple[int, int, int]] = {
-            "conflict": (self.conflicts, receivers, receivers),
-            "proposal": (self.conflicts, receivers - self.silent, receivers - self.silent),
-            "silent": (self.silent, receivers, trials),
-            "decided": (self.decided, trials, trials),
-            "right": (self.right, trials, trials),
+        and who observes whom, so that for silence a trial is one try."""
+        counted = {
+            "conflict": (self.conflicts, self.receivers),
+            "proposal": (self.conflicts, self.receivers - self.silent),
+            "silent": (self.silent, self.receivers, self.trials),
+            "decided": (self.decided, self.trials),
+            "right": (self.right, self.trials),
         }
         return share_of(*counted[what])
 
 
-@dataclass(frozen=True)
-class Table:
-    """A table, with the name by which it was given."""
-
+class Table(NamedTuple):
     name: str
-    lines: tuple[Line, ...]
+    lines: list[Line]
+
+    @property
+    def failing(self) -> list[Line]:
+        """The lines in which somebody fails."""
+        return [it for it in self.lines if it.f > 0]
 
 
-def line_of(name: str, number: int, row: dict[str, str | None]) -> Line:
+def grouped(lines: Iterable[Line], key: Callable[[Line], Key]) -> dict[Key, list[Line]]:
+    """Lines by what they have in common, in its order."""
+    return {common: list(its) for common, its in groupby(sorted(lines, key=key), key)}
+
+
+def rows_in(text: bytes) -> list[dict[str, str]]:
+    return list(csv.DictReader(io.StringIO(text.decode(errors="replace"))))
+
+
+def line_of(name: str, number: int, row: dict[str, str]) -> Line:
     try:
         values = {it: int(row[it] or "") for it in ("k", "h", "l", "f", *COUNTS[:-1])}
         settled = int(row["settled"] or "") if row.get("settled") is not None else None
@@ -109,8 +118,7 @@ def line_of(name: str, number: int, row: dict[str, str | None]) -> Line:
 
 
 def table_of(name: str, text: bytes) -> Table:
-    reader = csv.DictReader(io.StringIO(text.decode(errors="replace")))
-    lines = tuple(line_of(name, number, row) for number, row in enumerate(reader, 2))
+    lines = [line_of(name, number, row) for number, row in enumerate(rows_in(text), 2)]
     if not lines:
         raise Refused(f"{name}: it has no lines; a table has a header and a line for each cell")
     if len({it.cell for it in lines}) < len(lines):
@@ -124,7 +132,7 @@ def read_table(path: str) -> Table:
 
 
 def check_fits(plan: Plan, table: Table) -> None:
-    """That a table is one of a plan, as far as its cells and their trials say it."""
+    """That a table may be one of a plan."""
     if [it.cell for it in table.lines] != cells(plan):
         raise Refused(f"{table.name}: its cells are not those of the plan, in their order; was the run cut short?")
     for it in table.lines:
@@ -133,7 +141,6 @@ def check_fits(plan: Plan, table: Table) -> None:
 
 
 def csv_of(lines: list[Line]) -> str:
-    """Lines as the program prints a table."""
     names = ["k", "h", "l", "f", *(it for it in COUNTS if getattr(lines[0], it) is not None), "ppm"]
     rows = [",".join(str(getattr(it, name)) for name in names) for it in lines]
     return "\n".join([",".join(names), *rows]) + "\n"

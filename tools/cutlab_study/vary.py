@@ -1,10 +1,7 @@
 """Runs of a plan with other values of a field, and tables beside one another."""
-from __future__ import annotations
-
 import json
 import math
 import shutil
-from dataclasses import replace
 from typing import Any, Iterator
 
 from .plans import CUTLAB, Plan, Refused, plan_of, read_plan, text_of
@@ -18,22 +15,9 @@ def value_of(field: str, text: str) -> Any:
     if field == "seed":
         return text
     try:
-        if field in LISTS:
-            return [int(number) for number in text.split(",")]
-        return json.loads(text)
+        return [int(number) for number in text.split(",")] if field in LISTS else json.loads(text)
     except ValueError:
         return text
-
-
-def run(plan: Plan, workers: int | None) -> str:
-    """The table of a plan, by the program on the PATH."""
-    if not shutil.which("cutlab"):
-        raise Refused("cutlab is not on the PATH")
-    words = ["--workers", str(workers)] if workers else []
-    output, errors, status = CUTLAB.run("run", *words, text=text_of(plan), limit=None)
-    if status:
-        raise Refused(errors.rstrip("\n"))
-    return output
 
 
 def vary(plan: Plan, field: str, values: list[str], workers: int | None) -> Iterator[str]:
@@ -41,13 +25,16 @@ def vary(plan: Plan, field: str, values: list[str], workers: int | None) -> Iter
     if field not in plan:
         raise Refused(f"a plan of version {plan['version']} has no field {field}; it has {', '.join(sorted(plan))}")
     plans = [plan_of(text_of({**plan, field: value_of(field, text)})) for text in values]
-    name = f"{field}_set" if field in LISTS else field
+    if not shutil.which("cutlab"):
+        raise Refused("cutlab is not on the PATH")
+    words, name = ["--workers", str(workers)] if workers else [], f"{field}_set" if field in LISTS else field
     for number, (text, its) in enumerate(zip(values, plans)):
-        header, *lines = run(its, workers).splitlines()
-        if number == 0:
-            yield f"{name},{header}"
-        for line in lines:
-            yield f"{text.replace(',', ' ')},{line}"
+        done = CUTLAB.run("run", *words, text=text_of(its), limit=None)
+        if done.status:
+            raise Refused(done.errors.rstrip("\n"))
+        header, *lines = done.output.splitlines()
+        yield from [f"{name},{header}"] if number == 0 else []
+        yield from (f"{text.replace(',', ' ')},{line}" for line in lines)
 
 
 def differ(one: Share, other: Share) -> bool:
@@ -77,19 +64,17 @@ def compare(one: Table, other: Table) -> Iterator[str]:
 
 def pool(pairs: list[tuple[str, str]]) -> str:
     """The sums of the tables of plans that differ in the seed alone, given as (plan, table)."""
-    plans = [read_plan(path) for path, _ in pairs]
-    tables = [read_table(path) for _, path in pairs]
-    seeds = [plan["seed"] for plan in plans]
+    plans, tables = [read_plan(path) for path, _ in pairs], [read_table(path) for _, path in pairs]
     for (path, _), plan, table in zip(pairs, plans, tables):
         if {**plan, "seed": ""} != {**plans[0], "seed": ""}:
             fields = sorted(it for it in {*plan, *plans[0]} - {"seed"} if plan.get(it) != plans[0].get(it))
             both = f"{path} and {pairs[0][0]} differ in {', '.join(fields)}"
             raise Refused(f"{both}: only plans that differ in the seed alone add up")
         check_fits(plan, table)
-    if len(set(seeds)) < len(seeds):
+    if len({plan["seed"] for plan in plans}) < len(plans):
         raise Refused("two of the plans have one seed: they have the same trials, which count once")
     lines: list[Line] = []
     for its in zip(*(table.lines for table in tables)):
         names = [name for name in COUNTS if getattr(its[0], name) is not None]
-        lines.append(replace(its[0], **{name: sum(getattr(it, name) for it in its) for name in names}))
+        lines.append(its[0]._replace(**{name: sum(getattr(it, name) for it in its) for name in names}))
     return csv_of(lines)

@@ -1,11 +1,10 @@
 """The first word on a change, in minutes, with nothing proved: ./check [--seed S] [--times T] [--keep FILE]
 
-The program is built as it stands, unproved and with checks of its own. The cases that differed once are tried first; then the
-program is set against the reference by campaigns/: drawn plans, texts with mistakes, checkpoint files, shares, migrations,
-sessions, and studies that are killed. The tests of a crate are run, and those commands of README.md and the guides that
-need no large study. The layout of the sources, the types and the layout of the tools, and what .ci/run checks of documents are
-looked at. Each part has a line; the last line is `N passed, M failed`.
-"""
+The program is built as it stands, unproved and with checks of its own. The cases that differed once are tried first; then it is
+set against the reference by campaigns/: drawn plans, texts with mistakes, checkpoint files, shares, migrations, sessions, and
+studies that are killed. The tests of a crate are run, and those commands of README.md and the guides that need no large study.
+The layout of the sources, the types and the layout of the tools, and what .ci/run checks of documents are looked at. Each part has a
+line; the last line is `N passed, M failed`."""
 import argparse
 import os
 import re
@@ -19,10 +18,10 @@ from functools import partial
 from pathlib import Path
 from typing import Callable, NamedTuple
 
-from .arguments import parser
+from .build import NotBuilt, build_unproved
+from .commands import parser
 from .documents.pages import Command, try_pages
 from .paths import ROOT, copy, require, tracked_files
-from .unproved import NotBuilt, build_unproved
 
 # The campaigns, the longest first, with the number of cases that each tries, and of the parts that it is divided into.
 CAMPAIGNS = [
@@ -30,27 +29,21 @@ CAMPAIGNS = [
     *[("texts", 100, 1), ("sessions", 20, 1), ("shares", 10, 1), ("migrations", 20, 1), ("checkpoints", 50, 1)],
     *[("exact", 6, 1), ("explanations", 20, 1)],
 ]
-# Crates with tests that are built soon, and whose code the campaigns reach least.
-TESTED = ["cut_command_line_tests"]
+# A crate with tests that is built soon, and whose code the campaigns reach least.
+TESTED = "cut_command_line_tests"
 # Checks of documents by the sources alone, and by what the program prints.
 BY_SOURCES = ["docs/statement/make --check", "docs/layers/make --check", "docs/words", "docs/faults"]
 BY_PROGRAM = ["docs/schema", "docs/manual/make --check", "docs/completions/make --check", "docs/refuses"]
-# What looks at the tools, where it is installed, and their tests.
 TOOLS = ["mypy --cache-dir=/dev/null", "black --check --quiet ."]
-UNITS = [sys.executable, "-m", "unittest", "discover", "tools/tests"]
 # How a part's output says how many cases passed and failed, or were tried and different.
 RUST_TESTS, PYTHON_TESTS = r"^test result: .*?(\d+) passed; (\d+) failed", r"^Ran (\d+)() tests"
 TRIED = r"(\d+) tried, (\d+) different\n\Z"
 # The plans whose tables the unproved program has in seconds, and the commands that need a table.
 SMALL = ("one_crash.json", "watermarks.json")
 STUDIES = re.compile(r"\bcutlab (run|share|join|migrate|status|serve|ask)\b")
-# How long the commands of a page may take.
-SECONDS = 300
 
 
 class Result(NamedTuple):
-    """What a part found: how many cases passed and failed, what is printed of it, and how many seconds it took."""
-
     passed: int
     failed: int
     printed: str = ""
@@ -72,31 +65,8 @@ def part(*words: str | Path, counts: str = "", cases: int = 1, cwd: Path = ROOT)
 
 
 def build(program: Path) -> Result:
-    """Builds the program."""
-    try:
-        build_unproved(ROOT, program)
-    except NotBuilt as why:
-        return Result(0, 1, str(why))
+    build_unproved(ROOT, program)
     return Result(1, 0)
-
-
-def whole(words: str, *more: str | Path) -> Result:
-    """Runs a check that passes as a whole."""
-    return part(*f"./{words}".split(), *more)
-
-
-def tool(words: str) -> Result:
-    """Runs a tool over the package, if it is installed."""
-    name = words.split()[0]
-    missing = Result(0, 0, f"{name} is not installed, so the tools were not checked by it")
-    return part(*words.split()) if shutil.which(name) else missing
-
-
-def campaign(words: str, first: int, count: int, seed: str, program: Path) -> Result:
-    """Tries cases of a campaign."""
-    name, *rest = words.split()
-    drawn = ["--forget", "--seed", seed, "--from", str(first), "--count", str(count)]
-    return part(ROOT / "campaigns" / name, "--program", program, *drawn, *rest, cases=count)
 
 
 def layout() -> Result:
@@ -114,8 +84,7 @@ def layout() -> Result:
 
 def short(listed: list[Command]) -> list[Command]:
     """The commands of a page that need no large study, nor a file of one that does."""
-    kept: list[Command] = []
-    files: set[str] = set()
+    kept, files = list[Command](), set[str]()
     for command in listed:
         named = set(re.findall(r"[\w$]+\.(?:csv|cut|sock|txt)\b", command.text))
         if named & files or STUDIES.search(command.text) and not any(plan in command.text for plan in SMALL):
@@ -126,30 +95,28 @@ def short(listed: list[Command]) -> list[Command]:
 
 
 def pages(program: Path) -> Result:
-    """Runs the short commands of README.md and the guides, and compares what they print with what the pages show."""
-    count, differing = try_pages(program, short, SECONDS)
+    count, differing = try_pages(program, short, seconds=300)
     return Result(count - len(differing), len(differing), "\n".join(differing))
 
 
 def timed(run: Part) -> Result:
-    """What a part found, with its seconds."""
     begun = time.monotonic()
     try:
         found = run()
-    except (OSError, subprocess.SubprocessError) as error:
+    except (NotBuilt, OSError, subprocess.SubprocessError) as error:
         found = Result(0, 1, str(error))
     return found._replace(seconds=time.monotonic() - begun)
 
 
 def before() -> dict[str, Part]:
     """The parts that need no program, by their names."""
-    test = ["rt", "try", "--test"]
-    parts: dict[str, Part] = {
-        f"tests of {it}": partial(part, *test, counts=RUST_TESTS, cwd=ROOT / "crates" / it) for it in TESTED
-    }
-    parts |= {"layout": layout, "tests of tools": partial(part, *UNITS, counts=PYTHON_TESTS)}
-    parts |= {words.split()[0]: partial(tool, words) for words in TOOLS}
-    return parts | {words.split()[0]: partial(whole, words) for words in BY_SOURCES}
+    test = partial(part, "rt", "try", "--test", counts=RUST_TESTS, cwd=ROOT / "crates" / TESTED)
+    units = partial(part, sys.executable, "-m", "unittest", "discover", "tools/tests", counts=PYTHON_TESTS)
+    parts: dict[str, Part] = {f"tests of {TESTED}": test, "layout": layout, "tests of tools": units}
+    for name, *more in map(str.split, TOOLS):
+        missing = partial(Result, 0, 0, f"{name} is not installed, so the tools were not checked by it")
+        parts[name] = partial(part, name, *more) if shutil.which(name) else missing
+    return parts | {name: partial(part, f"./{name}", *more) for name, *more in map(str.split, BY_SOURCES)}
 
 
 def after(given: argparse.Namespace, program: Path) -> dict[str, Part]:
@@ -158,16 +125,17 @@ def after(given: argparse.Namespace, program: Path) -> dict[str, Part]:
     parts: dict[str, Part] = {"regressions": partial(counted, ROOT / "campaigns/regressions", "--program", program)}
     for words, count, shares in CAMPAIGNS:
         each = max(1, round(count * given.times / shares))
+        campaign, *rest = words.split()
+        command = [ROOT / "campaigns" / campaign, "--program", program, "--forget", "--seed", given.seed, *rest]
         for share in range(shares):
             name = f"{words} ({share + 1} of {shares})" if shares > 1 else words
-            parts[name] = partial(campaign, words, share * each, each, given.seed, program)
+            parts[name] = partial(part, *command, "--from", str(share * each), "--count", str(each), cases=each)
     parts["commands of the pages"] = partial(pages, program)
     parts |= {name: partial(counted, ROOT / name, program) for name in ("tests/vectors", "tests/program")}
-    return parts | {words.split()[0]: partial(whole, words, program) for words in BY_PROGRAM}
+    return parts | {name: partial(part, f"./{name}", *more, program) for name, *more in map(str.split, BY_PROGRAM)}
 
 
 def print_result(name: str, found: Result) -> Result:
-    """Prints a part's line, and all that differs."""
     print(f"{name:<36}{found.passed:>6} passed{found.failed:>4} failed{found.seconds:>7.1f} s", flush=True)
     if found.printed:
         print(found.printed, flush=True)

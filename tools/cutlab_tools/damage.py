@@ -5,10 +5,10 @@ import json
 import random
 import re
 from functools import reduce
-from typing import Any, NamedTuple
+from typing import Any, NamedTuple, Optional, Sequence
 
 from .paths import DATA, reference
-from .plans import Plan, text_of
+from .plans import Plan, text_of, trials_of
 
 # What is put into texts and plans: values of fields, and pieces of JSON in Latin-1, where "A * 3" stands for "AAA".
 MISTAKES: dict[str, list[Any]] = json.loads((DATA / "mistakes.json").read_text())
@@ -24,23 +24,18 @@ TOKENS, NUMBERS = ([bytes_of(piece) for piece in MISTAKES[name]] for name in ("t
 
 
 def spoil(rng: random.Random, plan: Plan) -> None:
-    """Changes, drops or adds one field."""
-    field = rng.choice(sorted(plan))
-    way = rng.randrange(5)
+    field, way = rng.choice(sorted(plan)), rng.randrange(5)
     if way == 0:
         del plan[field]
         return
     if way == 1:
         field = rng.choice(["x", "faults", "deaf", "Nodes", "", "version "])
-    before = plan[field] if way == 2 and isinstance(plan[field], list) else None
     value = rng.choice(MISTAKES["values"])
-    plan[field] = value if before is None else [*before, value]
+    plan[field] = [*plan[field], value] if way == 2 and isinstance(plan[field], list) else value
 
 
 def mutated(rng: random.Random, text: bytes) -> bytes:
-    """A text with one change: of a byte, a token, a number, or its nesting."""
-    at = rng.randrange(len(text) + 1)
-    way = rng.randrange(6)
+    at, way = rng.randrange(len(text) + 1), rng.randrange(6)
     if way == 0:
         return text[:at] + bytes([rng.randrange(256)]) + text[at + 1 :]
     if way == 1:
@@ -60,18 +55,16 @@ def drawn_slips(rng: random.Random, plan: Plan) -> list[reference.Slip]:
     """Some pieces of a plan's trials in a drawn order, with true sums or false ones."""
     slips: list[reference.Slip] = []
     layout, repeats = reference.layout_of(plan), plan["repeats"]
-    for cell in range(len(reference.cells(plan))):
-        first = cell * repeats
-        while first < (cell + 1) * repeats:
-            count = rng.randint(1, (cell + 1) * repeats - first)
-            if rng.random() < 0.6:
-                slips.append((first, count, reference.piece_sums(plan, layout, first, count)))
-            first += count
+    first = 0
+    while first < trials_of(plan):
+        count = rng.randint(1, repeats - first % repeats)
+        if rng.random() < 0.6:
+            slips.append((first, count, reference.piece_sums(plan, layout, first, count)))
+        first += count
     rng.shuffle(slips)
     if slips and rng.random() < 0.4:
         at = rng.randrange(len(slips))
-        first, count, sums = slips[at]
-        name = rng.choice(reference.SUMS)
+        (first, count, sums), name = slips[at], rng.choice(reference.SUMS)
         slips[at] = first, count, {**sums, name: max(0, sums[name] + rng.choice([-1, 1, 7, 1000, 2**40]))}
     if slips and rng.random() < 0.2:
         slips.insert(rng.randrange(len(slips) + 1), rng.choice(slips))
@@ -79,7 +72,6 @@ def drawn_slips(rng: random.Random, plan: Plan) -> list[reference.Slip]:
 
 
 def drawn_file(rng: random.Random, plan: Plan, slips: list[reference.Slip]) -> bytes:
-    """The file of these slips, whole or torn, changed, longer, of another plan, or something else."""
     held = reference.file_of(plan, slips)
     way = rng.randrange(8)
     if way == 0:
@@ -88,8 +80,7 @@ def drawn_file(rng: random.Random, plan: Plan, slips: list[reference.Slip]) -> b
         at = rng.randrange(len(held))
         return held[:at] + bytes([held[at] ^ 1 << rng.randrange(8)]) + held[at + 1 :]
     if way == 2:
-        more = rng.randint(1, 300)
-        return held + rng.getrandbits(8 * more).to_bytes(more, "little")
+        return held + rng.randbytes(rng.randint(1, 300))
     if way == 3:
         return reference.file_of({**plan, "repeats": plan["repeats"] + 1}, slips)
     if way == 4:
@@ -98,13 +89,10 @@ def drawn_file(rng: random.Random, plan: Plan, slips: list[reference.Slip]) -> b
 
 
 class Write(NamedTuple):
-    """A write of a run into its file."""
-
     place: int
     written: bytes
 
     def put(self, held: bytes) -> bytes:
-        """The bytes of a file after this write."""
         held = held.ljust(self.place, b"\0")
         return held[: self.place] + self.written + held[self.place + len(self.written) :]
 
@@ -120,8 +108,12 @@ class Write(NamedTuple):
         return Write(self.place, written)
 
 
-def crash_image(rng: random.Random, calls: list[Write | None]) -> bytes:
-    """The file as a crash after these calls may leave it: writes, and syncs, which are None."""
+# Of a run: its writes, and its syncs, as None.
+Calls = Sequence[Optional[Write]]
+
+
+def crash_image(rng: random.Random, calls: Calls) -> bytes:
+    """The file as a crash after these calls may leave it."""
     synced = max((at for at, call in enumerate(calls, 1) if call is None), default=0)
     stable = reduce(lambda held, write: write.put(held), filter(None, calls[:synced]), b"")
     torn = [write.torn(rng) for write in filter(None, calls[synced:])]

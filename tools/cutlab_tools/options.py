@@ -10,35 +10,24 @@ FOLDERS, FILES = {"DIR"}, {"FILE", "SOCKET", "OLD", "NEW", "OLD..", "PLAN"}
 
 
 class Argument(NamedTuple):
-    """A word, an option or a flag: its name, what its value is called if it has one, its help and its default."""
-
     name: str
-    value: str
+    value: str  # what it is called, if it has one
     help: str
     default: str | None
     is_word: bool
 
     @property
-    def is_file(self) -> bool:
-        return self.value in FILES
-
-    @property
-    def is_folder(self) -> bool:
-        return self.value in FOLDERS
-
-    @property
-    def is_valued(self) -> bool:
-        """Whether it is an option with a value that is no path."""
-        return bool(self.value) and not (self.is_word or self.is_file or self.is_folder)
+    def takes(self) -> str:
+        """What it takes: a file, a folder, as an option another value, or nothing."""
+        other = "value" if self.value and not self.is_word else ""
+        return "folder" if self.value in FOLDERS else "file" if self.value in FILES else other
 
 
 class Command(NamedTuple):
-    """A command: its name, what it does, its arguments in the order of its help, and the lines of that."""
-
     name: str
     about: str
     arguments: list[Argument]
-    lines: list[str]
+    lines: list[str]  # of its help
 
     @property
     def options(self) -> list[Argument]:
@@ -46,11 +35,10 @@ class Command(NamedTuple):
 
     @property
     def takes_files(self) -> bool:
-        return any(it.is_word and it.is_file for it in self.arguments)
+        return any(it.is_word and it.takes == "file" for it in self.arguments)
 
 
 def arguments(lines: list[str]) -> list[Argument]:
-    """The arguments that the lines of a command's help describe."""
     found = []
     for name, value, word, more, about, default in (it.groups() for it in map(ARGUMENT.match, lines) if it):
         value = value or (word + (more or "") if word else "")
@@ -66,9 +54,3 @@ def commands(repository: Repository) -> list[Command]:
         about, *lines = repository.read(f"$ cutlab {name} --help").split("\n")
         found.append(Command(name, about, arguments(lines), lines))
     return found
-
-
-def range_taken(repository: Repository, command: str, option: Argument) -> tuple[str, str]:
-    """The numbers that an option takes, as the program says where it refuses one."""
-    found = re.search(r"0 is not in (\d+)\.\.=(\d+)", repository.read(f"$ cutlab {command} --{option.name} 0"))
-    return (found[1], found[2]) if found else ("?", "?")

@@ -13,7 +13,6 @@ SMALLEST |= dict(links=0, nodes=2, repeats=1, seed="0" * 64, version=1)
 
 
 def text_of(plan: Plan) -> bytes:
-    """A plan's text as Python writes it."""
     return json.dumps(plan).encode()
 
 
@@ -24,11 +23,6 @@ def rising(rng: random.Random, low: int, high: int, most: int) -> list[int]:
 
 def drawn_seed(rng: random.Random) -> str:
     return f"{rng.getrandbits(256):064x}"
-
-
-def drawn_faults(rng: random.Random, version: int, deaf: Callable[[], int]) -> Plan:
-    """How the targets of a plan of a version fail, in version 2 with a drawn number of deaf ones."""
-    return {"faults": rng.choice(["crash", "deaf"])} if version == 1 else {"deaf": deaf()}
 
 
 def drawn_fields(rng: random.Random, versions: Sequence[int]) -> Plan:
@@ -42,7 +36,9 @@ def drawn_fields(rng: random.Random, versions: Sequence[int]) -> Plan:
     plan |= {"h": rising(rng, 1, k[-1], 3), "implicit": rng.random() < 0.5, "k": k, "l": rising(rng, 1, k[-1], 3)}
     plan |= {"liars": liars, "links": rng.choice([0, 0, 2, rng.randint(0, nodes)]), "nodes": nodes}
     plan |= {"repeats": rng.randint(1, 4), "seed": drawn_seed(rng), "version": rng.choice(versions)}
-    return plan | drawn_faults(rng, plan["version"], lambda: rng.choice([0, 1, 2, rng.randint(0, 2048)]))
+    if plan["version"] == 1:
+        return {**plan, "faults": rng.choice(["crash", "deaf"])}
+    return {**plan, "deaf": rng.choice([0, 1, 2, rng.randint(0, 2048)])}
 
 
 def drawn_plan(rng: random.Random, versions: Sequence[int] = (1, 2), most_work: int = 40_000) -> Plan:
@@ -60,24 +56,20 @@ def drawn_words(rng: random.Random, workers: int, piece: int) -> list[str]:
 
 
 def work_of(plan: Plan) -> int:
-    """About how many steps the reference takes for a plan."""
     others = plan["liars"] + plan["links"]
     each = sum(k * (2 * f + others) * (1 + f + plan["liars"]) for k, _, _, f in reference.cells(plan))
     return int(plan["repeats"] * plan["nodes"] * plan["copies"] * each)
 
 
 def trials_of(plan: Plan) -> int:
-    """How many trials a plan has."""
     return int(len(reference.cells(plan)) * plan["repeats"])
 
 
 def trials_in(slips: Iterable[Sequence[Any]]) -> list[int]:
-    """The trials of slips, each of which begins with its first trial and how many it has."""
     return sorted(trial for first, count, *_ in slips for trial in range(first, first + count))
 
 
 def slips_in(plan: Plan, held: bytes) -> list[reference.Slip]:
-    """The slips that a file holds for a plan, if they may be true."""
     return list(reference.checked_slips(plan, reference.slips_of(plan, held)))
 
 
@@ -97,7 +89,6 @@ def fault_of(text: bytes) -> int | None:
 
 
 def sizes(plan: Plan) -> str:
-    """What a check prints of a plan."""
     return f"cells {len(reference.cells(plan))}\ntrials {trials_of(plan)}\nquorum {reference.quorum(plan['nodes'])}\n"
 
 

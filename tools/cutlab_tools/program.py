@@ -1,9 +1,9 @@
 """A built program: how it is run, killed, served from and talked to."""
+import contextlib
 import socket
 import subprocess
 import threading
 import time
-from dataclasses import dataclass
 from pathlib import Path
 from typing import Any, Iterable, NamedTuple, Union
 
@@ -11,7 +11,6 @@ from .paths import PROGRAM, ROOT
 
 Word = Union[str, bytes, Path]
 Child = subprocess.Popen  # of bytes
-PEER_SOURCE = ROOT / "bench" / "peer" / "peer.rs"
 
 
 class Ended(NamedTuple):
@@ -22,14 +21,16 @@ class Ended(NamedTuple):
     status: int = 0
 
 
+def refused(fault: str, status: int = 4) -> Ended:
+    return Ended("", f"cutlab: fault {fault}\n", status)
+
+
 def end_of(child: Child[bytes], limit: float = 120) -> Ended:
-    """How a program ends that was started with pipes."""
     output, errors = child.communicate(timeout=limit)
     return Ended(output.decode(), errors.decode(), child.returncode)
 
 
-@dataclass(frozen=True)
-class Program:
+class Program(NamedTuple):
     """A program, and the folder in which it is run."""
 
     path: Path = PROGRAM
@@ -46,23 +47,19 @@ class Program:
         pipe = subprocess.PIPE
         child = Child([self.path, *words], stdin=pipe, stdout=pipe, stderr=pipe, cwd=self.folder)
         if text is not None and child.stdin:
-            try:
+            with contextlib.suppress(BrokenPipeError):
                 child.stdin.write(text)
                 child.stdin.close()
-            except BrokenPipeError:
-                pass
             child.stdin = None
         return child
 
     def run_killed(self, *words: Word, text: bytes, seconds: float) -> Ended:
-        """Runs a command that is killed after some time, if it has not ended before."""
         child = self.start(*words, text=text)
         time.sleep(seconds)
         child.kill()
         return end_of(child)
 
     def serve(self, path: Path, *words: Word, workers: int = 1, sessions: int = 1, studies: int = 1) -> Child[bytes]:
-        """Starts a server at a socket."""
         numbers = ["--workers", str(workers), "--sessions", str(sessions), "--studies", str(studies)]
         return self.start("serve", path, *numbers, *words)
 
@@ -82,12 +79,10 @@ def connect(path: Path) -> socket.socket:
 
 def send(wire: socket.socket, pieces: Iterable[bytes]) -> None:
     """Sends pieces of a stream and ends it, unless the other side has closed it before."""
-    try:
+    with contextlib.suppress(OSError):
         for piece in pieces:
             wire.sendall(piece)
         wire.shutdown(socket.SHUT_WR)
-    except OSError:
-        pass
 
 
 def replies_to(path: Path, *pieces: bytes) -> bytes:
@@ -96,11 +91,9 @@ def replies_to(path: Path, *pieces: bytes) -> bytes:
     with connect(path) as wire:
         sender = threading.Thread(target=send, args=(wire, pieces))
         sender.start()
-        try:
+        with contextlib.suppress(ConnectionResetError):
             while piece := wire.recv(65536):
                 found += piece
-        except ConnectionResetError:
-            pass
         sender.join()
     return found
 
@@ -109,5 +102,5 @@ def build_peer(folder: Path) -> Program:
     """The table in plain Rust without proofs, as rustc builds it into a folder."""
     peer = folder / "peer"
     options = ["--edition", "2021", "-O", "-C", "target-cpu=x86-64-v2"]
-    subprocess.run(["rustc", *options, "-o", peer, PEER_SOURCE], check=True)
+    subprocess.run(["rustc", *options, "-o", peer, ROOT / "bench/peer/peer.rs"], check=True)
     return Program(peer)

@@ -1,7 +1,7 @@
 """The files of the repository and what the built program prints, by which documents are made and checked.
 
-What the program prints is read like a file, whose name is a command line: `$ cutlab run --help`, or with an input,
-`$ cutlab explain < {}`. Texts are read once, and may be changed here without a change of any file.
+What the program prints on both streams is read like a file, whose name is a command line: `$ cutlab run --help`, or with an
+input, `$ cutlab explain < {}`. Texts are read once, and may be changed here without a change of any file.
 """
 from __future__ import annotations
 
@@ -12,13 +12,10 @@ from .program import Program
 
 
 class Repository:
-    """Texts by their names."""
-
     def __init__(self, program: Path = PROGRAM, texts: dict[str, str] | None = None) -> None:
         self.program, self.texts = program, texts or {}
 
     def read(self, name: str) -> str:
-        """The text of a file, or what a command prints on both streams."""
         if name not in self.texts:
             self.texts[name] = self.printed(name[9:]) if name.startswith("$ cutlab ") else (ROOT / name).read_text()
         return self.texts[name]

@@ -1,9 +1,6 @@
-"""bench/compare [PROGRAM] [PLAN..]: the program beside plain Rust without proofs.
-
-`bench/peer/peer.rs` is the table as it would be written without proofs: each receiver's deliveries sorted and replayed. It
-is built with rustc into a new folder, each plan (those of bench/plans by default) is run three times by each program with one
-worker, and the best seconds of a processor are printed, with their ratio and whether the tables are the same bytes.
-"""
+"""bench/compare [PROGRAM] [PLAN..]: the program beside bench/peer/peer.rs, the table in plain Rust without proofs, which rustc builds.
+Each plan (those of bench/plans by default) is run three times by each with one worker, and the best seconds of a processor are
+printed, with their ratio and whether the tables are the same bytes."""
 import sys
 import tempfile
 from pathlib import Path
@@ -22,7 +19,6 @@ def main() -> int:
         for plan in words or PLANS:
             (ours, table), (plain, wanted) = (best_cost(it, plan) for it in ([str(program), "run"], [str(peer.path)]))
             is_same &= table == wanted
-            word = "same table" if table == wanted else "OTHER TABLE"
-            ratio = ours.seconds / plain.seconds
+            word, ratio = "same table" if table == wanted else "OTHER TABLE", ours.seconds / plain.seconds
             print(f"{plan.name:24} {ours.seconds:8.3f} s {plain.seconds:8.3f} s  ratio {ratio:5.2f}  {word}")
     return int(not is_same)

@@ -1,15 +1,13 @@
 """bench/run [PROGRAM] [PLAN..] [--instructions] [--write]: what studies cost.
 
 For each plan, those of bench/plans where none is given, the best of three runs of the program: processor seconds, trials and
-keys a second, and peak memory. A key is drawn for each copy of each alert at each receiver; their number is computed from
-the plan, for noisy plans as an estimate. Then, for `examples/rapid_study.json`, the best of three by 1, 2 and 4 workers:
-seconds on the clock, and how many times as fast that is as by one.
+keys a second, and peak memory. A key is drawn for each copy of each alert at each receiver; for noisy plans their number is an
+estimate. Then, for `examples/rapid_study.json`, the best of three by 1, 2 and 4 workers: seconds on the clock, and how many
+times as fast that is as by one. Seconds are noise on most machines, so they are compared with nothing.
 
 At the end the instructions of each plan of bench/counted, by callgrind where valgrind is installed, beside those of
 bench/figures.json, which are of the proved program: what became slower by more than 3 % is said, and the status is then 1.
-With --instructions nothing else is done; with --write the figures are kept there. Seconds are noise on most machines, so
-they are compared with nothing.
-"""
+With --instructions nothing else is done; with --write the figures are kept there."""
 import json
 import os
 import re
@@ -19,13 +17,12 @@ import sys
 import tempfile
 import time
 from pathlib import Path
-from typing import Iterator, NamedTuple
+from typing import NamedTuple
 
-from ..arguments import parser
+from ..commands import parser
 from ..paths import ROOT, reference
 from ..plans import Plan, trials_of
 
-WORKERS = (1, 2, 4)
 PLANS, COUNTED = (sorted(ROOT.glob(f"bench/{folder}/*.json")) for folder in ("plans", "counted"))
 FIGURES = ROOT / "bench" / "figures.json"
 # By how much a plan may take more instructions than its figure says.
@@ -33,10 +30,8 @@ TOLERANCE = 0.03
 
 
 class Cost(NamedTuple):
-    """What a run took: seconds of a processor, MiB of memory at the peak, and seconds on the clock."""
-
-    seconds: float
-    memory: float
+    seconds: float  # of a processor
+    memory: float  # in MiB, at the peak
     clock: float
 
 
@@ -52,7 +47,6 @@ def keys_of(plan: Plan) -> float:
 
 
 def cost_of(command: list[str], plan: Path) -> tuple[Cost, bytes]:
-    """The cost of one run over a plan, and the table."""
     begun = time.monotonic()
     with plan.open("rb") as text, tempfile.TemporaryFile() as table:
         child = subprocess.Popen(command, stdin=text, stdout=table)
@@ -83,53 +77,41 @@ def instructions(program: Path, plan: Path) -> int:
     return int(found[1])
 
 
-def slower(figures: dict[str, int], found: dict[str, int]) -> Iterator[str]:
-    """The plans that take more instructions than their figures say, and those without a figure, a line for each."""
-    for name, count in found.items():
-        more = count / figures[name] - 1 if name in figures else 0.0
-        if name not in figures:
-            yield f"{name}: it has no figure in bench/figures.json: bench/run --write keeps one"
-        if more > TOLERANCE:
-            yield f"{name}: slower by {100 * more:.1f} %: {count} instructions, {figures[name]} in bench/figures.json"
-
-
 def compare(program: Path, is_written: bool) -> int:
-    """Compares the instructions of plans with the figures that are kept, or keeps them."""
     if not shutil.which("valgrind"):
         print("\nvalgrind is not installed, so nothing is compared with bench/figures.json")
         return 0
     figures: dict[str, int] = json.loads(FIGURES.read_text()) if FIGURES.exists() else {}
+    found, lines = dict[str, int](), list[str]()
     print(f"\n{'plan':16}{'instructions':>16}{'figure':>16}")
-    found = {}
-    for plan in COUNTED:
-        count = found[plan.name] = instructions(program, plan)
-        print(f"{plan.name:16}{count:>16}{figures.get(plan.name, 'none'):>16}", flush=True)
+    for name, plan in ((plan.name, plan) for plan in COUNTED):
+        count = found[name] = instructions(program, plan)
+        print(f"{name:16}{count:>16}{figures.get(name, 'none'):>16}", flush=True)
+        if name not in figures:
+            lines.append(f"{name}: it has no figure in bench/figures.json: bench/run --write keeps one")
+        elif (more := count / figures[name] - 1) > TOLERANCE:
+            both = f"{count} instructions, {figures[name]} in bench/figures.json"
+            lines.append(f"{name}: slower by {100 * more:.1f} %: {both}")
     if is_written:
         FIGURES.write_text(json.dumps(found, indent=1, sort_keys=True) + "\n")
         return 0
-    lines = list(slower(figures, found))
     print("\n".join(lines) or f"of {len(found)} plans none is slower by more than {100 * TOLERANCE:.0f} %")
     return int(bool(lines))
 
 
 def print_costs(program: Path, plans: list[Path]) -> None:
-    """Prints the costs of plans by one worker."""
+    """Prints the costs of plans by one worker, and those of one plan by several."""
     print(f"{'plan':16}{'seconds':>9}{'trials/s':>10}{'keys/s':>12}{'MiB':>8}")
     for path in plans:
         plan = reference.plan_of(path.read_bytes())
         cost, _ = best_cost([str(program), "run"], path)
         rates = f"{trials_of(plan) / cost.seconds:10.0f}{keys_of(plan) / cost.seconds:12.0f}"
         print(f"{path.name:16}{cost.seconds:9.3f}{rates}{cost.memory:8.1f}")
-
-
-def print_workers(program: Path, plan: Path) -> None:
-    """Prints the costs of a plan by several workers."""
-    print(f"\n{plan.name} by workers\n{'workers':>8}{'seconds':>9}{'times':>7}{'MiB':>8}")
-    alone = 0.0
-    for workers in WORKERS:
-        cost, _ = best_cost([str(program), "run", "--workers", str(workers)], plan)
-        alone = alone or cost.clock
-        print(f"{workers:8}{cost.clock:9.3f}{alone / cost.clock:7.2f}{cost.memory:8.1f}")
+    path = ROOT / "examples" / "rapid_study.json"
+    print(f"\n{path.name} by workers\n{'workers':>8}{'seconds':>9}{'times':>7}{'MiB':>8}")
+    costs = {it: best_cost([str(program), "run", "--workers", str(it)], path)[0] for it in (1, 2, 4)}
+    for workers, cost in costs.items():
+        print(f"{workers:8}{cost.clock:9.3f}{costs[1].clock / cost.clock:7.2f}{cost.memory:8.1f}")
 
 
 def main() -> int:
@@ -140,5 +122,4 @@ def main() -> int:
     given = words.parse_args()
     if not given.instructions:
         print_costs(given.program, given.plans)
-        print_workers(given.program, ROOT / "examples" / "rapid_study.json")
     return compare(given.program, given.write)

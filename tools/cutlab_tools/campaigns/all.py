@@ -4,7 +4,7 @@ import os
 import subprocess
 from concurrent.futures import ThreadPoolExecutor
 
-from ..arguments import parser
+from ..commands import parser
 from ..paths import ROOT
 
 CAMPAIGNS = "plans faulty_plans texts checkpoints migrations kills crashes sessions laws shares restarts peers".split()

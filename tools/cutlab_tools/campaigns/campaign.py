@@ -1,8 +1,7 @@
 """What all campaigns have in common: options, seeds, counts, the report of a difference, and cases that are kept.
 
 A case is drawn from the name of its campaign, a seed and its own number, so that these three say which case it is. One that
-differs is kept in tests/data/regressions, and tried by ./check before all others from then on.
-"""
+differs is kept in tests/data/regressions, and tried by ./check before all others from then on."""
 import argparse
 import importlib
 import inspect
@@ -14,9 +13,9 @@ import sys
 import tempfile
 import time
 from pathlib import Path
-from typing import Any, ClassVar, Iterator
+from typing import Any, ClassVar
 
-from ..arguments import parser
+from ..commands import parser
 from ..paths import DATA, ROOT
 from ..program import Ended, Program, Word
 
@@ -38,7 +37,6 @@ class Campaign:
     options: ClassVar[dict[str, dict[str, Any]]] = {}
 
     def __init_subclass__(cls) -> None:
-        """Names a campaign by its class."""
         super().__init_subclass__()
         cls.name = re.sub(r"(?<=[a-z])(?=[A-Z])", " ", cls.__name__).lower()
 
@@ -72,7 +70,6 @@ class Campaign:
         self.expect(what, True, bool(fact))
 
     def expect_run(self, wanted: Ended, *words: Word, text: bytes = b"", what: str = "") -> None:
-        """Runs a command over a text, and compares how it ends."""
         what = what or f"{' '.join(map(str, words))} < {text.decode(errors='backslashreplace')}"
         self.expect(what, wanted, self.program.run(*words, text=text))
 
@@ -84,7 +81,6 @@ class Campaign:
 
 
 def campaign_of(name: str) -> type[Campaign]:
-    """The campaign of a name."""
     for module in ("drawn", "exact", "files", "laws", "servers"):
         importlib.import_module(f"{__package__}.{module}")
     return next(it for it in Campaign.__subclasses__() if it.name == name.replace("_", " "))
@@ -92,9 +88,9 @@ def campaign_of(name: str) -> type[Campaign]:
 
 def keep(campaign: Campaign, seed: str, number: int, difference: str) -> str:
     """Keeps a case that differs: a line that says where."""
-    what: str | None = difference.split("\n  reference: ")[0]
-    what = what if what in campaign.compared else None  # (nothing was compared where the program did not answer)
-    kept = {"campaign": campaign.name, "seed": seed, "number": number, "options": campaign.values, "compares": what}
+    what = difference.split("\n  reference: ")[0]
+    kept = {"campaign": campaign.name, "seed": seed, "number": number, "options": campaign.values}
+    kept["compares"] = what if what in campaign.compared else None  # (nothing, where the program did not answer)
     path = REGRESSIONS / f"{campaign.name.replace(' ', '_')}-{seed}-{number}.json"
     try:
         path.parent.mkdir(exist_ok=True)
@@ -104,19 +100,11 @@ def keep(campaign: Campaign, seed: str, number: int, difference: str) -> str:
     return f"kept: {path.relative_to(ROOT)}"
 
 
-def case_numbers(given: argparse.Namespace) -> Iterator[int]:
-    """The numbers of the cases that are tried."""
-    end, number = time.monotonic() + 60 * (given.minutes or 0), given.first
-    while time.monotonic() < end if given.minutes else number < given.first + given.count:
-        yield number
-        number += 1
-
-
-def described(campaign: Campaign, given: argparse.Namespace, number: int, difference: str) -> str:
-    """What is printed of a case that differs."""
+def described(campaign: Campaign, given: argparse.Namespace, tried: int, difference: str) -> str:
+    number = given.first + tried
     own = [f"--{name}" if value is True else f"--{name} {value}" for name, value in campaign.values.items() if value]
     again = " ".join([sys.argv[0], f"--seed {given.seed} --from {number} --count 1", *own])
-    head = f"{campaign.name}: case {number} differs after {number - given.first} that did not"
+    head = f"{campaign.name}: case {number} differs after {tried} that did not"
     kept = [] if given.forget else [keep(campaign, given.seed, number, difference)]
     return "\n".join([head, difference, f"again: {again}", *kept])
 
@@ -134,12 +122,13 @@ def run(command: str, _: None = None) -> int:
         words.add_argument(f"--{name}", **its)
     given = words.parse_args()
     campaign = kind(given.program, {name: getattr(given, name) for name in kind.options})
+    last = time.monotonic() + 60 * (given.minutes or 0)
     try:
-        for number in case_numbers(given):
-            campaign.attempt(given.seed, number)
+        while time.monotonic() < last if given.minutes else tried < given.count:
+            campaign.attempt(given.seed, given.first + tried)
             tried += 1
     except FAILURES as difference:
-        sys.exit(described(campaign, given, number, str(difference)))
+        sys.exit(described(campaign, given, tried, str(difference)))
     finally:
         campaign.close()
     print(f"{campaign.name}: {tried} tried, 0 different", flush=True)

@@ -7,7 +7,7 @@ from typing import Any
 
 from ..damage import spoil
 from ..paths import reference
-from ..plans import Plan, drawn_faults, drawn_plan, drawn_seed, drawn_words, rising, sizes, text_of, trials_of, wanted
+from ..plans import Plan, drawn_fields, drawn_plan, drawn_words, rising, sizes, text_of, trials_of, wanted
 from ..program import build_peer
 from .campaign import Campaign
 
@@ -26,8 +26,7 @@ class FaultyPlans(Campaign):
     def case(self, rng: random.Random) -> None:
         plan = drawn_plan(rng)
         for _ in range(rng.randint(1, 3)):
-            if plan:
-                spoil(rng, plan)
+            spoil(rng, plan)
         self.expect_run(wanted(text_of(plan), sizes), "check", text=text_of(plan))
 
 
@@ -42,15 +41,13 @@ def keys_in(plan: Plan, layout: reference.Layout, trial: int) -> int:
 def never_right(plan: Plan) -> dict[str, list[int]]:
     """The cells in which no trial is right, by why not, as explain begins their lines."""
     found: dict[str, list[int]] = {"right": [], "decided and right": []}
-    most = plan["nodes"] - reference.quorum(plan["nodes"])
     for number, (_, h, l, f) in enumerate(reference.cells(plan)):
         found["right"] += [number] * (f == 0) + [number] * (l == h and f >= 2)
-        found["decided and right"] += [number] * (f > most)
+        found["decided and right"] += [number] * (plan["nodes"] - f < reference.quorum(plan["nodes"]))
     return found
 
 
 def number_after(lines: str, words: str) -> int | None:
-    """The number that comes after these words at the start of a line."""
     found = re.search(rf"^{words} (\d+)", lines, re.M)
     return int(found[1]) if found else None
 
@@ -60,23 +57,11 @@ class Explanations(Campaign):
     no trial is right, that no more keys are drawn than it says, and the bytes of the checkpoint that a run leaves."""
 
     def case(self, rng: random.Random) -> None:
-        text = text_of({**drawn_plan(rng, most_work=10_000), "repeats": rng.choice([1, 2, 3, 17])})
-        plan = reference.plan_of(text)
-        layout, trials = reference.layout_of(plan), trials_of(plan)
+        plan = {**drawn_plan(rng, most_work=10_000), "repeats": rng.choice([1, 2, 3, 17])}
+        text, layout = text_of(plan), reference.layout_of(plan)
         lines, errors, status = self.program.run("explain", text=text)
         self.expect(f"explain < {text.decode()}", ("accepted", "", 0), (lines.split("\n")[0], errors, status))
         self.expect(text.decode(), sizes(plan), "\n".join([*lines.split("\n")[1:4], ""]))
-        self.check_never_right(plan, layout, lines)
-        keys = sum(keys_in(plan, layout, trial) for trial in range(trials))
-        most = number_after(lines, "keys drawn: at most")
-        what = f"{keys} keys are drawn, at most {most} by explain: {text.decode()}"
-        self.require(most is not None and keys <= most, what)
-        self.program.run("run", "--checkpoint", "study.cut", text=text)
-        size = (self.folder / "study.cut").stat().st_size
-        self.expect(text.decode(), size, number_after(lines, "checkpoint: at most"))
-
-    def check_never_right(self, plan: Plan, layout: reference.Layout, lines: str) -> None:
-        """Compares the counts of these cells, and tries that no trial of one is right."""
         cells = len(reference.cells(plan))
         for start, numbers in never_right(plan).items():
             counts = [int(it) for it in re.findall(rf"^{start}: 0 in (\d+) of {cells} cells, ", lines, re.M)]
@@ -84,18 +69,21 @@ class Explanations(Campaign):
             for number in set(numbers):
                 sums = reference.piece_sums(plan, layout, number * plan["repeats"], plan["repeats"])
                 self.require(not any(sums[it] for it in start.split(" and ")), f"no trial of cell {number} is {start}")
+        keys = sum(keys_in(plan, layout, trial) for trial in range(trials_of(plan)))
+        most = number_after(lines, "keys drawn: at most")
+        self.require(keys <= (most or 0), f"{keys} keys are drawn, at most {most} by explain: {text.decode()}")
+        self.program.run("run", "--checkpoint", "study.cut", text=text)
+        size = (self.folder / "study.cut").stat().st_size
+        self.expect(text.decode(), size, number_after(lines, "checkpoint: at most"))
 
 
 def large_plan(rng: random.Random) -> Plan:
     """A plan of up to 2,048 processes and 32 rings, in a few cells."""
-    nodes = rng.choice([64, 100, 255, 256, 257, 500, 1000, 2047, 2048])
-    top = rng.choice([3, 8, 10, 16, 31, 32])
-    plan: Plan = {"copies": rng.choice([1, 1, 2, 4]), "dead": rng.choice(["silent", "speak"])}
+    plan, top = drawn_fields(rng, (1, 2)), rng.choice([3, 8, 10, 16, 31, 32])
     plan |= {"f": rising(rng, 0, rng.choice([2, 6, 12]), 1), "h": rising(rng, max(1, top // 2), top, 2)}
-    plan |= {"implicit": rng.random() < 0.5, "k": [top], "l": rising(rng, 1, max(1, top // 2), 2)}
-    plan |= {"liars": rng.choice([0, 1, 3]), "links": rng.choice([0, 2, 8]), "nodes": nodes}
-    plan |= {"repeats": rng.randint(1, 2), "seed": drawn_seed(rng), "version": rng.choice([1, 2])}
-    return plan | drawn_faults(rng, plan["version"], lambda: rng.choice([0, 1, 2048]))
+    plan |= {"k": [top], "l": rising(rng, 1, max(1, top // 2), 2), "repeats": rng.randint(1, 2)}
+    plan |= {"liars": rng.choice([0, 1, 3]), "links": rng.choice([0, 2, 8])}
+    return {**plan, "nodes": rng.choice([64, 100, 255, 256, 257, 500, 1000, 2047, 2048])}
 
 
 class Peers(Campaign):

@@ -1,44 +1,26 @@
 """The exact shares of tools/study beside the definitions, and beside the program.
 
-Each case has two parts. A small world is drawn, with at most seven alerts, and every order of them is given to the
-reference's detector: the orders that end in a conflict, in silence and in an extra are counted, and have to be the exact
-shares of all orders, as whole numbers. Then a plan is drawn, and the program's table of it is set beside the exact shares by
-the roles of its own trials. What is certain, as that nobody is silent, has to be so; of the conflicts the squares of the
-distances, in standard deviations, are added up over the cells. A sum that chance exceeds once in ten million cases is a
-difference: so a run of a thousand cases gives a false alarm once in ten thousand.
-"""
+Each case has two parts. Every order of the alerts of a small world is given to the reference's detector: the orders that end in
+a conflict, in silence and in an extra have to be the exact shares of all orders, as whole numbers. Then the program's table of a
+drawn plan is set beside the exact shares by the roles of its own trials. What is certain, as that nobody is silent, has to be so; of
+the conflicts the squares of the distances, in standard deviations, are added up over the cells. A sum that chance exceeds once
+in ten million cases is a difference: so a run of a thousand cases gives a false alarm once in ten thousand."""
 import itertools
 import json
 import math
 import random
 from fractions import Fraction
-from typing import Any
 
 from cutlab_study import exact
 from cutlab_study.shares import Rule
 from cutlab_study.tables import Line, table_of
 
 from ..paths import reference
-from ..plans import Plan, drawn_plan, text_of
+from ..plans import Plan, drawn_plan, drawn_seed, text_of
 from .campaign import Campaign
 
 MOST_ALERTS, MOST_STEPS, RARE, LEAST_VARIANCE = 7, 3 * 10**8, 1e-7, 5.0
 COLUMNS = ("conflicts", "silent", "extra")
-
-
-class DrawnRoles(reference.Roles):
-    """Roles that are drawn here, in the form in which the reference has them."""
-
-    def __init__(self, rng: random.Random, nodes: int, layout: reference.Layout) -> None:
-        order = rng.sample(range(nodes), nodes)
-        failed = rng.randint(0, min(3, nodes - 1))
-        deaf = rng.randint(0, failed)
-        liars = rng.choice([0, 0, 1]) if failed < nodes else 0
-        self.targets, rest = order[:failed], order[failed + liars :]
-        self.crashed, self.deaf = set(order[: failed - deaf]), set(order[failed - deaf : failed])
-        self.liars = set(order[failed : failed + liars])
-        self.links = {(end, layout.subject(0, end)) for end in rest[: rng.choice([0, 0, 1])]}
-        self.speak = rng.random() < 0.5
 
 
 class SmallWorld:
@@ -47,17 +29,18 @@ class SmallWorld:
     def __init__(self, rng: random.Random) -> None:
         while True:
             nodes, k = rng.randint(3, 7), rng.randint(1, 4)
+            failed, low = rng.randint(0, min(3, nodes - 1)), rng.randint(1, k)
+            self.plan: Plan = {"nodes": nodes, "implicit": rng.random() < 0.6, "dead": rng.choice(["silent", "speak"])}
+            self.plan |= {"deaf": rng.randint(0, failed), "liars": rng.choice([0, 0, 1])}
+            self.plan |= {"links": rng.choice([0, 0, 1]), "seed": drawn_seed(rng), "version": 2}
             self.layout = reference.Layout([rng.sample(range(nodes), nodes) for _ in range(k)])
-            self.roles = DrawnRoles(rng, nodes, self.layout)
-            low = rng.randint(1, k)
-            self.plan: Plan = {"nodes": nodes, "implicit": rng.random() < 0.6}
+            self.roles = reference.Roles(self.plan, failed, reference.Source(self.plan, 0), self.layout)
             self.edges = reference.alert_list(self.plan, self.layout, self.roles, k)
             if len(self.edges) <= MOST_ALERTS:
                 self.cell = (k, rng.randint(low, k), low, len(self.roles.targets))
                 return
 
     def proposed(self, order: tuple[reference.Edge, ...]) -> set[int] | None:
-        """What a receiver proposes by an order, if it does."""
         detector = reference.Detector(self.layout, *self.cell[:3], self.plan["implicit"])
         for edge in order:
             detector.deliver(edge)
@@ -66,14 +49,13 @@ class SmallWorld:
         return None
 
     def counts(self) -> list[int]:
-        """How many orders end in a conflict, in silence and in an extra."""
         targets, found = set(self.roles.targets), map(self.proposed, itertools.permutations(self.edges))
         ends = [(not targets <= it, False, not it <= targets) if it else (False, True, False) for it in found]
         return [sum(its) for its in zip(*ends)]
 
     def shown(self) -> str:
-        what: dict[str, Any] = {"cell": self.cell, "implicit": self.plan["implicit"], "rings": self.layout.rings}
-        return json.dumps({**what, "alerts": self.edges, "targets": self.roles.targets})
+        what = {"cell": self.cell, "implicit": self.plan["implicit"], "rings": self.layout.rings}
+        return json.dumps(what | {"alerts": self.edges, "targets": self.roles.targets})
 
 
 def trial_columns(plan: Plan, layout: reference.Layout, number: int, line: Line) -> list[exact.Columns]:
@@ -86,20 +68,15 @@ def trial_columns(plan: Plan, layout: reference.Layout, number: int, line: Line)
 
 class Exact(Campaign):
     def case(self, rng: random.Random) -> None:
-        self.check_orders(SmallWorld(rng))
+        small = SmallWorld(rng)
+        world = exact.world_of(small.plan, small.layout, small.roles, small.cell)
+        columns = exact.columns_of(world, Rule(*small.cell[1:3]), 1, 1)
+        found = [getattr(columns, name) * math.factorial(len(small.edges)) for name in COLUMNS]
+        self.expect(f"orders in conflict, silent and with an extra of {small.shown()}", small.counts(), found)
         self.check_table({**drawn_plan(rng), "repeats": rng.randint(4, 30)})
 
-    def check_orders(self, small: SmallWorld) -> None:
-        """Every order of a small world's alerts beside its exact shares."""
-        world = exact.world_of(small.plan, small.layout, small.roles, small.cell)
-        columns = exact.columns_of(world, Rule(small.cell[1], small.cell[2]), 1, 1)
-        orders = math.factorial(len(small.edges))
-        found = [getattr(columns, name) * orders for name in COLUMNS]
-        self.expect(f"orders in conflict, silent and with an extra of {small.shown()}", small.counts(), found)
-
     def check_column(self, plan: Plan, line: Line, name: str, shares: list[Fraction]) -> float | None:
-        """A column of a line beside its exact shares by trials: its distance in standard deviations, where that says
-        something."""
+        """A column of a line beside its exact shares by trials: its distance in standard deviations, if that says much."""
         receivers, found = plan["nodes"] - line.f, getattr(line, name)
         mean = sum(receivers * share for share in shares)
         variance = float(sum(receivers * share * (1 - share) for share in shares))
@@ -108,7 +85,6 @@ class Exact(Campaign):
         return float(found - mean) / math.sqrt(variance) if variance >= LEAST_VARIANCE else None
 
     def check_table(self, plan: Plan) -> None:
-        """The program's table of a drawn plan beside the exact shares."""
         layout, distances = reference.layout_of(plan), list[float]()
         for number, line in enumerate(table_of("table", self.table_of(text_of(plan)).encode()).lines):
             columns = trial_columns(plan, layout, number, line)

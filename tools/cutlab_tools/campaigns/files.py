@@ -1,14 +1,15 @@
 """Campaigns over checkpoint files: studies that go on from them, are killed, divided, joined and moved."""
+import json
 import random
 import re
 import time
 from pathlib import Path
 from typing import Iterator
 
-from ..damage import Write, crash_image, drawn_file, drawn_slips
+from ..damage import Calls, Write, crash_image, drawn_file, drawn_slips
 from ..paths import reference
 from ..plans import Plan, drawn_plan, drawn_seed, drawn_words, slips_in, text_of, trials_in, trials_of, upgrade, work_of
-from ..program import Ended, Program
+from ..program import Ended, Program, refused
 from .campaign import Campaign
 
 
@@ -27,33 +28,29 @@ class Checkpoints(Campaign):
     swapped, changed or of another plan. The table, and the file that is left, beside the reference's."""
 
     def case(self, rng: random.Random) -> None:
-        text = text_of(drawn_plan(rng, most_work=10_000))
-        plan = reference.plan_of(text)
-        held = drawn_file(rng, plan, drawn_slips(rng, plan))
-        path = self.folder / "study.cut"
+        plan, path = drawn_plan(rng, most_work=10_000), self.folder / "study.cut"
+        text, held = text_of(plan), drawn_file(rng, plan, drawn_slips(rng, plan))
         path.write_bytes(held)
         found = self.program.run("run", "--checkpoint", "study.cut", *drawn_words(rng, 3, 4), text=text)
         self.expect(f"{text.decode()} over {held.hex()}", wanted(plan, held), found)
         if found.status:
             self.expect("the file that a refused run leaves", held, path.read_bytes())
-            return
-        # The file that a run leaves has each trial once, and gives the same table.
-        slips = slips_in(plan, path.read_bytes())
-        self.expect("the trials in the file that is left", list(range(trials_of(plan))), trials_in(slips))
-        self.expect("the table over that file", found.output, reference.table_over(plan, slips))
+        else:
+            slips = slips_in(plan, path.read_bytes())
+            self.expect("the trials in the file that is left", list(range(trials_of(plan))), trials_in(slips))
+            self.expect("the table over that file", found.output, reference.table_over(plan, slips))
 
 
 CALL = re.compile(r'(?:\[pid +\d+\] |\d+ +)?(?:fsync|pwrite64)\(3(?:, "((?:\\x[0-9a-f]{2})*)", \d+, (\d+))?')
-GATE = b"\xa5"
 
 
 class Crashes(Campaign):
-    """Crash images: the writes and syncs of a real run, as strace shows them, up to a drawn moment. Of what was written
-    since the last sync any byte may be there, or not, or be another. Each image has to read as the acknowledged slips, or
-    these and one more, and to be gone on with."""
+    """Crash images: the writes and syncs of a real run, as strace shows them, up to a drawn moment. Of what was written since
+    the last sync any byte may be there or another. Each reads as the acknowledged slips or one more, and is gone on with.
+    """
 
-    def calls_of(self, text: bytes, piece: int) -> list[Write | None]:
-        """The writes, and the syncs, as None, of a run into a new file, which is the first that it opens."""
+    def calls_of(self, text: bytes, piece: int) -> Calls:
+        """The writes and the syncs of a run into a new file, which is the first that it opens."""
         traced = "-f -xx -s 200000 -e trace=pwrite64,fsync".split()
         command = ["run", "--checkpoint", "study.cut", "--piece", str(piece)]
         done = Program(Path("strace"), self.folder).run(*traced, self.path, *command, text=text)
@@ -61,34 +58,24 @@ class Crashes(Campaign):
         return [Write(int(it[2]), bytes.fromhex(it[1].replace("\\x", ""))) if it[2] else None for it in found]
 
     def case(self, rng: random.Random) -> None:
-        text = text_of(drawn_plan(rng, most_work=6_000))
-        plan, piece, path = reference.plan_of(text), rng.randint(1, 3), self.folder / "study.cut"
+        plan, piece, path = drawn_plan(rng, most_work=6_000), rng.randint(1, 3), self.folder / "study.cut"
+        text = text_of(plan)
         calls = self.calls_of(text, piece)
         whole, table = reference.slips_of(plan, path.read_bytes()), reference.table(plan)
         for _ in range(20):
             made = calls[: rng.randint(0, len(calls))]
             left = crash_image(rng, made)
             what = f"{text.decode()} by pieces of {piece}, after {len(made)} calls, as {left.hex()}"
-            self.check_read(what, plan, whole, made, left)
+            acknowledged = sum(bool(write and write.written == b"\xa5") for write in made[:-1]) - 1
+            try:
+                slips = reference.slips_of(plan, left)
+            except reference.Fault as fault:
+                self.expect(f"the reading of {what}", (22, True), (fault.number, acknowledged < 0))
+            else:
+                self.expect(what, whole[: len(slips)], slips)
+                self.require(len(slips) in (max(acknowledged, 0), acknowledged + 1), f"the slips of {what}")
             path.write_bytes(left)
             self.expect_run(Ended(table), "run", "--checkpoint", "study.cut", text=text, what=what)
-
-    def check_read(
-        self, what: str, plan: Plan, whole: list[reference.Slip], made: list[Write | None], left: bytes
-    ) -> None:
-        """Checks that an image is read as the slips that were acknowledged, or these and one more."""
-        gates = [bool(write and write.written == GATE) for write in made]
-        acknowledged = sum(gates[:-1]) - 1
-        try:
-            slips = reference.slips_of(plan, left)
-        except reference.Fault as fault:
-            self.expect(f"the reading of {what}", (22, True), (fault.number, acknowledged < 0))
-            return
-        self.expect(what, whole[: len(slips)], slips)
-        self.require(len(slips) in (max(acknowledged, 0), acknowledged + 1), f"the slips of {what}")
-
-
-MOST_WORK = 200_000
 
 
 def long_plan(rng: random.Random, size: float) -> Plan:
@@ -100,44 +87,38 @@ def long_plan(rng: random.Random, size: float) -> Plan:
 
 
 class Kills(Campaign):
-    """`kill -9` at drawn moments: a study with a checkpoint, or the one share of it, is killed and given again until it is
-    done, and its table is that of a study that ran at once; where the study is small, it is the reference's. What it wrote
-    before is a prefix of what it writes then."""
+    """`kill -9` at drawn moments: a study with a checkpoint, or the one share of it, is killed and given again until it is done.
+    Its table is that of a study that ran at once, and the reference's of a small one; what it wrote before is a prefix.
+    """
 
     options = {"size": dict(type=float, default=1, help="how large the studies are: less than 1 for a slow program")}
 
     def case(self, rng: random.Random) -> None:
-        text = text_of(long_plan(rng, self.values["size"]))
-        plan = reference.plan_of(text)
-        begun = time.monotonic()
+        plan = long_plan(rng, self.values["size"])
+        text, begun = text_of(plan), time.monotonic()
         whole = self.table_of(text, "--workers", "2")
         longest = max(0.08, time.monotonic() - begun)
-        if work_of(plan) < MOST_WORK:
+        if work_of(plan) < 200_000:
             self.expect(f"the table of {text.decode()}", reference.table(plan), whole)
-        trials = trials_of(plan)
-        share = ["share", "1/1"], f"share 1 of 1: {trials} of {trials}\n"
-        command, answer = rng.choice([(["run", "--checkpoint"], whole), share])
-        self.run_to_end(rng, [*command, "study.cut"], text, answer, longest)
-        self.expect_run(Ended(whole), "run", "--checkpoint", "study.cut", text=text, what="the table at the end")
-        slips_in(plan, (self.folder / "study.cut").read_bytes())
-
-    def run_to_end(self, rng: random.Random, command: list[str], text: bytes, answer: str, longest: float) -> None:
-        """Runs a command again and again, each time killed after at most `longest`, until it ends by itself."""
+        share = "share 1/1", f"share 1 of 1: {trials_of(plan)} of {trials_of(plan)}\n"
+        command, answer = rng.choice([("run --checkpoint", whole), share])
         for _ in range(200):
-            words = [*command, *drawn_words(rng, 4, 20)]
+            words = [*command.split(), "study.cut", *drawn_words(rng, 4, 20)]
             found = self.program.run_killed(*words, text=text, seconds=rng.random() * longest)
             self.expect("what was written is a prefix of the answer", answer[: len(found.output)], found.output)
             self.expect("what was reported", "", found.errors)
             if found.status == 0:
-                return
+                break
+        self.expect_run(Ended(whole), "run", "--checkpoint", "study.cut", text=text, what="the table at the end")
+        slips_in(plan, (self.folder / "study.cut").read_bytes())
 
 
 def true_slips(rng: random.Random, plan: Plan) -> list[reference.Slip]:
     """A piece of each cell of a plan, in a drawn order, at most twelve of them."""
     layout, repeats, slips = reference.layout_of(plan), plan["repeats"], list[reference.Slip]()
-    for cell in range(len(reference.cells(plan))):
-        first = cell * repeats + rng.randrange(repeats)
-        count = rng.randint(1, (cell + 1) * repeats - first)
+    for last in range(repeats, trials_of(plan) + 1, repeats):
+        first = last - repeats + rng.randrange(repeats)
+        count = rng.randint(1, last - first)
         slips.append((first, count, reference.piece_sums(plan, layout, first, count)))
     rng.shuffle(slips)
     return slips[: rng.randint(0, 12)]
@@ -148,8 +129,7 @@ class Migrations(Campaign):
     reference's. Slips with other sums than their trials give are refused."""
 
     def case(self, rng: random.Random) -> None:
-        text = text_of(drawn_plan(rng, versions=(1,), most_work=10_000))
-        plan = reference.plan_of(text)
+        plan = drawn_plan(rng, versions=(1,), most_work=10_000)
         slips, layout, newer = true_slips(rng, plan), reference.layout_of(plan), upgrade(plan)
         moved = [(first, count, reference.piece_sums(newer, layout, first, count)) for first, count, _ in slips]
         wanted = Ended(f"migrated {len(slips)}\n")
@@ -162,10 +142,10 @@ class Migrations(Campaign):
                 refusal = "46 Disagrees"
             except reference.Fault:
                 refusal = "17 BadSlip"
-            wanted = Ended("", f"cutlab: fault {refusal} {wrong + 1}\n", 4)
+            wanted = refused(f"{refusal} {wrong + 1}")
         (self.folder / "old.cut").write_bytes(reference.file_of(plan, slips))
-        what = f"{text.decode()} with {slips}"
-        self.expect_run(wanted, "migrate", "old.cut", "new.cut", text=text, what=what)
+        what = f"{json.dumps(plan)} with {slips}"
+        self.expect_run(wanted, "migrate", "old.cut", "new.cut", text=text_of(plan), what=what)
         if wanted.status == 0:
             found = (self.folder / "new.cut").read_bytes()
             self.expect(f"the new file of {what}", reference.file_of(newer, moved), found)
@@ -173,11 +153,9 @@ class Migrations(Campaign):
 
 def blocks_of(plan: Plan, size: int) -> Iterator[range]:
     """The trials of the blocks that the cells are cut into, numbered through all cells."""
-    repeats = plan["repeats"]
-    for cell in range(len(reference.cells(plan))):
-        for first in range(0, repeats, size):
-            start = cell * repeats + first
-            yield range(start, min(start + size, (cell + 1) * repeats))
+    for last in range(plan["repeats"], trials_of(plan) + 1, plan["repeats"]):
+        starts = range(last - plan["repeats"], last, size)
+        yield from (range(start, min(start + size, last)) for start in starts)
 
 
 def runs_of(plan: Plan, trials: set[int]) -> int:
@@ -186,7 +164,7 @@ def runs_of(plan: Plan, trials: set[int]) -> int:
 
 
 def status_of(plan: Plan, trials: set[int]) -> str:
-    """What is printed of a file whose slips are one for each run of these trials."""
+    """What is printed of a file that has a slip for each run of these trials."""
     cells, repeats = len(reference.cells(plan)), plan["repeats"]
     done = sum(trials.issuperset(range(cell * repeats, (cell + 1) * repeats)) for cell in range(cells))
     lines = [f"trials {len(trials)} of {cells * repeats}", f"cells {done} of {cells}", f"slips {runs_of(plan, trials)}"]
@@ -231,8 +209,7 @@ class Shares(Campaign):
         trials = {trial for block in blocks for trial in block}
         line = f"joined {len(blocks)} into {runs_of(plan, trials)}, {len(trials)} of {trials_of(plan)}\n"
         self.expect_run(Ended(line), "join", new.name, *files, text=text)
-        joined = trials_in(slips_in(plan, new.read_bytes()))
-        self.expect("the trials of the joined slips", sorted(trials), joined)
+        self.expect("the trials of the joined slips", sorted(trials), trials_in(slips_in(plan, new.read_bytes())))
         self.expect_run(Ended(status_of(plan, trials)), "status", new.name, what="the status of the joined file")
         self.check_refused(files, new)
         self.expect_run(Ended(reference.table(plan)), "run", "--checkpoint", new.name, text=text, what="the table")
@@ -243,13 +220,13 @@ class Shares(Campaign):
         again, empty, none, before = "again.cut", "empty.cut", "none.cut", new.read_bytes()
         (self.folder / empty).touch()
         text, full = self.text, [it for it in files if self.shares[it]]
-        self.expect_run(Ended("", "cutlab: fault 25 Held\n", 4), "join", new.name, *files, text=text)
+        self.expect_run(refused("25 Held"), "join", new.name, *files, text=text)
         if full:
             found, faults, status = self.program.run("join", again, *files, full[0], text=text)
             expected = ("", "cutlab: fault 17 BadSlip", 4)
             self.expect("a file that is joined twice", expected, (found, faults[:24], status))
         for last, fault in ((again, "20 Disk"), (none, "20 Disk"), (empty, "22 NoStudy")):
-            self.expect_run(Ended("", f"cutlab: fault {fault}\n", 4), "join", again, *files, last, text=text)
+            self.expect_run(refused(fault), "join", again, *files, last, text=text)
         named = f'cutlab: file {len(files) + 1}: "{empty}"\ncutlab: fault 22 NoStudy\n'
         self.expect_run(Ended("", named, 4), "join", "--which", again, *files, empty, text=text)
         written = {it.name for it in self.folder.iterdir() if it.stat().st_size or it.name == none}

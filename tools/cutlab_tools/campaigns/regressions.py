@@ -3,12 +3,11 @@ its campaign no longer draws it, as it compares something else, that is said too
 import json
 from pathlib import Path
 
-from ..arguments import parser
+from ..commands import parser
 from .campaign import FAILURES, REGRESSIONS, campaign_of
 
 
 def difference(path: Path, program: Path) -> str | None:
-    """What differs in a kept case."""
     kept = json.loads(path.read_text())
     campaign = campaign_of(kept["campaign"])(program, kept["options"])
     try:

@@ -1,4 +1,5 @@
 """Campaigns over servers: what clients are sent, whatever they send, and after servers that were killed."""
+import contextlib
 import json
 import random
 import tempfile
@@ -10,9 +11,8 @@ from typing import Iterator
 from ..damage import mutated
 from ..paths import reference
 from ..plans import SMALLEST, drawn_plan, fault_of, sizes, slips_in, text_of, trials_of, wanted
-from ..program import Child, Ended, Program, connect, end_of, replies_to
+from ..program import Child, Ended, Program, connect, end_of, refused, replies_to
 from .campaign import Campaign, Differs
-
 
 SLOTS = 4
 Message = tuple[str, "bytes | None"]
@@ -38,13 +38,12 @@ def drawn_messages(rng: random.Random, texts: list[bytes]) -> bytes:
 
 def wanted_replies(sent: bytes) -> Iterator[Message]:
     """The replies to a session, where a count of trials is None."""
-    requests, stream_fault = reference.messages("requests", sent)
+    requests, stream_fault = reference.messages(reference.REQUESTS, sent)
     for kind, payload in requests:
         if kind == "Q":
             return
         if kind == "S":
-            is_there = int.from_bytes(payload, "big") < SLOTS
-            yield ("S", None) if is_there else ("E", (26).to_bytes(2, "big"))
+            yield ("S", None) if int.from_bytes(payload, "big") < SLOTS else ("E", (26).to_bytes(2, "big"))
         elif fault := fault_of(payload):
             yield "E", fault.to_bytes(2, "big")
         else:
@@ -57,7 +56,7 @@ def wanted_replies(sent: bytes) -> Iterator[Message]:
 
 def accepted_plans(sent: bytes) -> Iterator[bytes]:
     """The canonical texts of the plans among the requests that are answered."""
-    for kind, payload in reference.messages("requests", sent)[0]:
+    for kind, payload in reference.messages(reference.REQUESTS, sent)[0]:
         if kind == "Q":
             return
         if kind == "R" and fault_of(payload) is None:
@@ -82,7 +81,7 @@ class Sessions(Campaign):
             heard = list(pool.map(lambda its: replies_to(path, *its), pieces))
         ended = end_of(server, 60)
         for sent, found in zip(streams, heard):
-            replies, fault = reference.messages("replies", found)
+            replies, fault = reference.messages(reference.REPLIES, found)
             without_counts = [("S", None) if kind == "S" else (kind, payload) for kind, payload in replies]
             self.expect(f"the replies to {sent.hex()}", (list(wanted_replies(sent)), None), (without_counts, fault))
         plans = {text for sent in streams for text in accepted_plans(sent)}
@@ -100,81 +99,65 @@ class Restarts(Campaign):
         text = text_of({**plan, "repeats": rng.randint(1, 20) * plan["repeats"]})
         whole = self.table_of(text)
         for _ in range(rng.randint(1, 6)):
-            output, errors, status = self.cut_off(rng, text)
+            with self.server(rng):
+                client = self.program.start("ask", "s", text=text)
+                time.sleep(rng.random() * 0.1)
+            output, errors, status = end_of(client)
             self.expect("what was sent is a prefix of the table", whole[: len(output)], output)
             self.require(status in (0, 4), f"the status after {errors!r}")
             self.require(status != 0 or output == whole, "all of it where the client ended well")
-        self.expect("the table at the end", Ended(whole), self.served(rng, text))
+        with self.server(rng) as server:
+            for _ in range(1000):  # (it may not listen at its socket yet)
+                found = end_of(self.program.start("ask", "s", text=text))
+                if found != refused("43 Read"):
+                    break
+                time.sleep(0.005)
+            server.wait(60)
+        self.expect("the table at the end", Ended(whole), found)
         kept = list(self.folder.glob("*.cut"))
         self.expect("how many studies are kept", 1, len(kept))
         slips_in(reference.plan_of(text), kept[0].read_bytes())
 
-    def started(self, rng: random.Random) -> Child[bytes]:
-        """A server of one session that keeps its study in the folder. It makes its socket soon, unless it ends before."""
+    @contextlib.contextmanager
+    def server(self, rng: random.Random) -> Iterator[Child[bytes]]:
+        """A server of one session that keeps its study in the folder, and is killed. It makes its socket soon."""
         path, last = self.folder / "s", time.monotonic() + 10
         server = self.program.serve(path, "--dir", self.folder, workers=rng.randint(1, 3))
-        while not path.exists():
-            if server.poll() is not None or time.monotonic() > last:
-                raise Differs("the server makes no socket")
-            time.sleep(0.005)
-        return server
-
-    def cut_off(self, rng: random.Random, text: bytes) -> Ended:
-        """What a client was sent by a server that is killed after some time."""
-        server = self.started(rng)
         try:
-            client = self.program.start("ask", "s", text=text)
-            time.sleep(rng.random() * 0.1)
-        finally:
-            server.kill()
-        found = end_of(client)
-        end_of(server, 60)
-        (self.folder / "s").unlink(missing_ok=True)
-        return found
-
-    def served(self, rng: random.Random, text: bytes) -> Ended:
-        """What a client was sent by a server that lasts, once it listens at its socket."""
-        server = self.started(rng)
-        try:
-            for _ in range(1000):
-                found = end_of(self.program.start("ask", "s", text=text))
-                if found != Ended("", "cutlab: fault 43 Read\n", 4):
-                    break
+            while not path.exists():
+                if server.poll() is not None or time.monotonic() > last:
+                    raise Differs("the server makes no socket")
                 time.sleep(0.005)
-            end_of(server, 60)
+            yield server
         finally:
             server.kill()
-        return found
-
-
-# The fault of a server without room, and how many requests a session answers, less than its 1,000,000.
-NO_ROOM, MOST_REQUESTS = 29, 900_000
+            end_of(server, 60)
+            path.unlink(missing_ok=True)
 
 
 class Session:
-    """A session with a server that has no room for a study."""
+    """A session with a server that has no room for a study, of less than its 1,000,000 requests."""
 
     def __init__(self, program: Path) -> None:
-        self.left, self.folder = MOST_REQUESTS, tempfile.TemporaryDirectory()
-        path = Path(self.folder.name, "socket")
-        self.server = Program(program).serve(path)
-        self.wire = connect(path)
+        self.left, self.held = 900_000, contextlib.ExitStack()
+        path = Path(self.held.enter_context(tempfile.TemporaryDirectory()), "socket")
+        server = Program(program).serve(path)
+        self.held.callback(server.communicate)
+        self.held.callback(server.kill)
+        self.wire = self.held.enter_context(connect(path))
         self.wire.settimeout(60)
-        self.replies = self.wire.makefile("rb")
+        self.replies = self.held.enter_context(self.wire.makefile("rb"))
         self.wire.sendall(reference.frame("R", text_of(SMALLEST)))
         while self.reply()[0] == "T":  # (the only study of the server is run)
             pass
 
-    def taken(self, count: int) -> bytes:
-        """The next bytes of what the server replies."""
-        found = self.replies.read(count)
-        if len(found) < count:
-            raise ConnectionError("it was ended")
-        return found
-
     def reply(self) -> tuple[str, bytes]:
-        head = self.taken(5)
-        return chr(head[0]), self.taken(int.from_bytes(head[1:], "big"))
+        head = self.replies.read(5)
+        size = int.from_bytes(head[1:], "big")
+        payload = self.replies.read(size)
+        if len(head) < 5 or len(payload) < size:
+            raise ConnectionError("it was ended")
+        return chr(head[0]), payload
 
     def answer(self, text: bytes) -> int | str:
         """The number of the fault that the server replies to a text, or what else it replies."""
@@ -183,19 +166,11 @@ class Session:
         kind, payload = self.reply()
         return int.from_bytes(payload, "big") if kind == "E" else kind
 
-    def end(self) -> None:
-        self.replies.close()
-        self.wire.close()
-        self.server.kill()
-        self.server.communicate()
-        self.folder.cleanup()
-
 
 class Texts(Campaign):
     """Mutated texts of plans, by bytes, tokens, numbers, nesting and UTF-8: what the program makes of each beside the
     reference, which leaves to Python's own reader what JSON is. The program is started for each text, or with --session all
-    of them are sent to one server: it has room for one study, which it is sent first, and so runs none of the others.
-    """
+    of them are sent to one server: it has room for one study, which it is sent first, and runs none of the others."""
 
     options = {"session": dict(action="store_true", help="sends the texts to one server")}
     session: Session | None = None
@@ -206,7 +181,7 @@ class Texts(Campaign):
         for _ in range(rng.choice([1, 1, 1, 2, 3])):
             text = mutated(rng, text)
         if self.values["session"] and len(text) <= 65_536:
-            self.expect(repr(text), fault_of(text) or NO_ROOM, self.sent(text))
+            self.expect(repr(text), fault_of(text) or 29, self.sent(text))  # (29: no room for another study)
         else:
             self.expect_run(wanted(text, sizes), "check", text=text, what=repr(text))
 
@@ -222,5 +197,5 @@ class Texts(Campaign):
 
     def close(self) -> None:
         if self.session:
-            self.session.end()
+            self.session.held.close()
         self.session = None

@@ -4,25 +4,24 @@ Those of tests/data/wrong_bodies.json are changes of a line, one in each part of
 to see it. An edit that must fail, crates/NAME/must-fail/*.edit, is named instead, or with --all each of them is taken: then
 the campaigns are run, the shortest first, until one reports a difference or the time is over. A change is applied to a copy
 of the repository, whose program is built unproved in about a minute. A line for each says what was seen, and the last line
-counts them; the status is 1 where one of the list was not seen. With --minutes they are begun until this many have passed.
-"""
-from __future__ import annotations
-
+counts them; the status is 1 where one of the list was not seen. With --minutes they are begun until this many have passed."""
 import contextlib
 import json
 import os
+import re
 import signal
 import subprocess
 import tempfile
 import time
 from collections import Counter
 from concurrent.futures import ThreadPoolExecutor
+from itertools import zip_longest
 from pathlib import Path
 from typing import NamedTuple, Sequence
 
-from ..arguments import parser
+from ..build import NotBuilt, NotServed, build_unproved
+from ..commands import parser
 from ..paths import DATA, ROOT, copy_repository, require
-from ..unproved import NotBuilt, NotServed, build_unproved
 
 # What is run with the program of an edit, the shortest first: the last goes on until the time is over.
 CAMPAIGNS = (
@@ -41,42 +40,25 @@ class WrongBody(NamedTuple):
     changes: Sequence[Sequence[str]]
     campaigns: Sequence[str]
 
-    @staticmethod
-    def read(path: Path) -> WrongBody:
-        """An edit that must fail."""
-        lines = [line.partition(": ") for line in path.read_text().split("\n") if line.strip()]
-        file, old, new = ([text for name, _, text in lines if name == word] for word in ("file", "old", "new"))
-        crate = path.parents[1].relative_to(ROOT)
-        return WrongBody(str(path.relative_to(ROOT)), crate / file[0], list(zip(old, new)), CAMPAIGNS)
 
-    def apply(self, place: Path) -> None:
-        """Applies it to a copy of the repository."""
-        text = (place / self.file).read_text()
-        for old, new in self.changes:
-            if old not in text:
-                raise NotBuilt(f"{self.file} lacks {old}")
-            text = text.replace(old, new)
-        (place / self.file).write_text(text)
-
-
-def listed() -> list[WrongBody]:
-    """Those of the list."""
-    rows = json.loads((DATA / "wrong_bodies.json").read_text())
-    return [WrongBody(it["part"], Path(it["file"]), it["changes"], [it["campaign"]]) for it in rows]
+def edit_of(path: Path) -> WrongBody:
+    """An edit that must fail."""
+    said = {word: re.findall(f"^{word}: (.*)", path.read_text(), re.M) for word in ("file", "old", "new")}
+    file, name = path.parents[1].relative_to(ROOT) / said["file"][0], str(path.relative_to(ROOT))
+    return WrongBody(name, file, list(zip(said["old"], said["new"])), CAMPAIGNS)
 
 
 def all_edits() -> list[Path]:
     """The edits of all crates, one of each crate in turn."""
     folders = sorted(ROOT.glob("crates/*/must-fail"))
-    found = [it for folder in folders for it in enumerate(sorted(folder.glob("*.edit")))]
-    return [path for _, path in sorted(found, key=lambda it: it[0])]
+    turns = zip_longest(*(sorted(folder.glob("*.edit")) for folder in folders))
+    return [path for turn in turns for path in turn if path]
 
 
 def differs(words: str, program: Path, seconds: float) -> bool:
     """Whether a campaign reports a difference in this time. Then it is ended, with all that it started."""
     name, *rest = words.split()
-    command = [str(ROOT / "campaigns" / name), "--forget", "--program", str(program), *rest]
-    quiet = subprocess.DEVNULL
+    command, quiet = [str(ROOT / "campaigns" / name), "--forget", "--program", str(program), *rest], subprocess.DEVNULL
     child = subprocess.Popen(command, stdout=quiet, stderr=quiet, start_new_session=True)
     try:
         return child.wait(timeout=seconds) != 0
@@ -101,16 +83,18 @@ def seen(campaigns: Sequence[str], program: Path, seconds: float) -> str:
 
 
 def attempt(body: WrongBody, seconds: float, last: float) -> str:
-    """What is seen of a wrong body."""
     if body.file.parts[2] != "src":
         return f"{NOT_RUN}: it changes no body"
     if time.monotonic() > last:
         return f"{NOT_RUN}: the time is over"
     with tempfile.TemporaryDirectory() as folder:
-        program = Path(folder, "cutlab")
+        program, file = Path(folder, "cutlab"), Path(folder, body.file)
         copy_repository(Path(folder))
+        for old, new in body.changes:
+            if old not in file.read_text():
+                return f"{NOT_BUILT}: {body.file} lacks {old}"
+            file.write_text(file.read_text().replace(old, new))
         try:
-            body.apply(Path(folder))
             build_unproved(Path(folder), program)
         except NotServed:
             return "seen by the build, whose program does not serve"
@@ -129,7 +113,9 @@ def main() -> int:
     given = words.parse_args()
     require("rt", "wrong_bodies")
     edits = all_edits() if given.all else [it.resolve() for it in given.edits]
-    bodies, counts = [WrongBody.read(it) for it in edits] or listed(), Counter[str]()
+    rows, counts = json.loads((DATA / "wrong_bodies.json").read_text()), Counter[str]()
+    listed = [WrongBody(it["part"], Path(it["file"]), it["changes"], [it["campaign"]]) for it in rows]
+    bodies = [edit_of(it) for it in edits] or listed
     last = time.monotonic() + 60 * given.minutes
     with ThreadPoolExecutor(given.jobs) as pool:
         for body, found in zip(bodies, pool.map(lambda it: attempt(it, given.seconds, last), bodies)):

@@ -1,12 +1,11 @@
 """Documents that are made of the sources or of what the program prints, and their checks.
 
 The module of a document has `made`, if the document is made: its texts by the files that they stand in. It may have
-`differences`, which gives a line for each thing that differs, and `summary`, which says what was found right.
-"""
+`differences`, which gives a line for each thing that differs, and `summary`, which says what was found right."""
 from pathlib import Path
 from types import ModuleType
 
-from ..arguments import parser
+from ..commands import parser
 from ..paths import PROGRAM, ROOT
 from ..repository import Repository
 
@@ -17,18 +16,10 @@ class NotMade(Exception):
 
 def found_in(command: str, module: ModuleType, repository: Repository) -> list[str]:
     """What the check of a document finds, a line for each."""
-    try:
-        texts: dict[str, str] = module.made(repository) if hasattr(module, "made") else {}
-    except NotMade as why:
-        return [f"{command}: {why}"]
+    texts: dict[str, str] = module.made(repository) if hasattr(module, "made") else {}
     other = [path for path, text in texts.items() if not repository.has(path) or repository.read(path) != text]
     more = module.differences(repository) if hasattr(module, "differences") else []
     return [*(f"{path}: not what {command} makes: run it" for path in other), *more]
-
-
-def write(module: ModuleType, repository: Repository) -> None:
-    for path, text in module.made(repository).items():
-        (ROOT / path).write_text(text)
 
 
 def run(command: str, module: ModuleType) -> int:
@@ -41,7 +32,8 @@ def run(command: str, module: ModuleType) -> int:
     repository = Repository(given.program)
     try:
         if not getattr(given, "check", True):
-            write(module, repository)
+            for path, text in module.made(repository).items():
+                (ROOT / path).write_text(text)
         found = found_in(command, module, repository)
         summary = module.summary(repository) if hasattr(module, "summary") and not found else ""
     except NotMade as why:

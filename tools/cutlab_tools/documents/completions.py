@@ -1,6 +1,5 @@
 """docs/completions/make [--check] [PROGRAM]: makes the completions for bash, zsh and fish from the help of the program. With
---check it writes nothing, prints which of the three differs, and ends with 1 where one does.
-"""
+--check it writes nothing, prints which of the three differs, and ends with 1 where one does."""
 import re
 from string import Template
 from typing import Iterator
@@ -10,15 +9,15 @@ from ..repository import Repository
 
 FOLDER, MADE = "docs/completions", "Made by docs/completions/make."
 HELP = Command("help", "Print the help of a command", [], [])
+# What fish offers for an option by what it takes.
+FISH = {"folder": " -r -a '(__fish_complete_directories)'", "file": " -r -F", "value": " -x", "": ""}
 
 
 def bash(listed: list[Command]) -> dict[str, str]:
-    """What its template takes for bash."""
     valued = {it.name: it for command in listed for it in command.options if it.value}
-    files, folders = ([it.name for it in valued.values() if getattr(it, kind)] for kind in ("is_file", "is_folder"))
     reply = 'mapfile -t COMPREPLY < <(compgen {} -- "$current")'.format
-    groups = [(files, f'{reply("-f")}; '), (folders, f'{reply("-d")}; ')]
-    groups.append(([name for name, it in valued.items() if it.is_valued], ""))
+    actions = {"file": f'{reply("-f")}; ', "folder": f'{reply("-d")}; ', "value": ""}
+    groups = [([name for name, it in valued.items() if it.takes == kind], action) for kind, action in actions.items()]
     values = [f"    --{' | --'.join(its)}) {action}return ;;" for its, action in groups if its]
     lines = []
     for command in listed:
@@ -37,14 +36,13 @@ def zsh_text(text: str) -> str:
 def zsh_spec(it: Argument) -> str:
     """An argument as `_arguments` of zsh takes it."""
     words, value = zsh_text(it.help), zsh_text(it.value)
-    action = "_files -/" if it.is_folder else "_files" if it.is_file else ""
+    action = {"folder": "_files -/", "file": "_files"}.get(it.takes, "")
     if it.is_word:
         return f"'*:{value}:{action}'" if value.endswith("..") else f"':{value} -- {words}:{action}'"
     return f"'--{it.name}[{words}]{f':{value}:{action}' if value else ''}'"
 
 
 def zsh(listed: list[Command]) -> dict[str, str]:
-    """What its template takes for zsh."""
     names = "\n".join(f"    '{it.name}:{zsh_text(it.about)}'" for it in [*listed, HELP])
     specs = {it.name: [*map(zsh_spec, it.arguments), "'--help[Print help]'"] for it in listed}
     lines = [" \\\n        ".join([f"    {name})\n      _arguments", *its]) for name, its in specs.items()]
@@ -56,7 +54,6 @@ def fish_text(text: str) -> str:
 
 
 def fish(listed: list[Command]) -> Iterator[str]:
-    """The lines of the completions for fish."""
     first = "complete -c cutlab -n __fish_use_subcommand"
     yield f"# Completions of cutlab for fish: put this file where fish looks for completions. {MADE}"
     yield from ("", "complete -c cutlab -f")
@@ -66,13 +63,11 @@ def fish(listed: list[Command]) -> Iterator[str]:
         when = f"complete -c cutlab -n '__fish_seen_subcommand_from {command.name}'"
         yield from ["", f"{when} -F"] if command.takes_files else [""]
         for it in command.options:
-            takes = " -r -a '(__fish_complete_directories)'" if it.is_folder else " -r -F" if it.is_file else " -x"
-            yield f"{when} -l {it.name}{takes if it.value else ''} -d {fish_text(it.help)}"
+            yield f"{when} -l {it.name}{FISH[it.takes]} -d {fish_text(it.help)}"
         yield f"{when} -l help -d 'Print help'"
 
 
 def made(repository: Repository) -> dict[str, str]:
-    """The completions by the files that they stand in."""
     listed, found = commands(repository), dict[str, str]()
     for name, shell, words in (("cutlab.bash", "bash", bash(listed)), ("_cutlab", "zsh", zsh(listed))):
         template = Template(repository.read(f"{FOLDER}/{shell}.template"))

@@ -1,11 +1,7 @@
-"""Checks what says a fault besides the list of `cut_faults`: docs/faults
+"""Checks what says a fault besides the list of `cut_faults`: docs/faults. What differs is printed, and the status is then 1.
 
 - The list of docs/FORMATS.md has its numbers, names and order, and the exit status where a command can end with the fault.
-- The crates' faults, each of which stands for one of the list, stand for that of the same name, but for those of `RENAMED`;
-  and each of the list stands for some fault of a crate.
-
-It prints what differs, and ends with 1 where something does.
-"""
+- Each of the crates' faults stands for that of the same name, but for those of `RENAMED`; each of the list for some fault."""
 import re
 from itertools import zip_longest
 from typing import Iterator
@@ -27,7 +23,6 @@ RENAMED |= {"Endless": "Read", "Socket": "Read", "Folder": "Disk"}
 
 
 def differences(repository: Repository) -> Iterator[str]:
-    """What differs, a line for each fault."""
     code: list[tuple[str, ...]] = IN_CODE.findall(repository.read(CODE))
     page: list[tuple[str, ...]] = ON_PAGE.findall(repository.read(FORMATS))
     if not code:

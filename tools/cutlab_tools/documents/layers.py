@@ -2,10 +2,9 @@
 draws nothing, and says what differs.
 
 crates.txt has the layers, a heading for each, from the bottom to the top, and what each crate stands on. What a crate is for is
-the first sentence of its README. The picture has the layers that the program is built of: laws and tests stand beside them. An
-arrow goes from a layer to each one that it stands on, but for those that it reaches over another. A crate that stands on one of a
-layer above its own is refused, and so is one that docs/ARCHITECTURE.md has under another layer.
-"""
+the first sentence of its README. Laws and tests stand beside the layers that are drawn. An arrow goes from a layer to each one
+that it stands on, but for those that it reaches over another. A crate that stands on one of a layer above its own is refused, and
+so is one that docs/ARCHITECTURE.md has under another layer."""
 import html
 import re
 import textwrap
@@ -28,88 +27,67 @@ STYLE = """
 
 
 class Crate(NamedTuple):
-    """A crate, with the crates of the repository that it stands on, and what it is for."""
-
     name: str
-    stands_on: list[str]
+    stands_on: list[str]  # the crates of the repository that it does
     purpose: str
 
 
-class Layer(NamedTuple):
-    """A layer with its crates, in the order of reading."""
-
-    name: str
-    crates: list[Crate]
+# The crates of each layer, in the order of reading, from the bottom to the top.
+Layers = dict[str, list[Crate]]
 
 
-def purpose(repository: Repository, crate: str) -> str:
-    """The first sentence of a crate's README, without marks."""
-    text = repository.read(f"crates/{crate}/README.md").split("\n\n")[1]
-    return re.sub(r"`", "", re.split(r"(?<=\.) ", text.replace("\n", " "))[0])
-
-
-def layers(repository: Repository) -> list[Layer]:
-    """The layers by crates.txt, from the bottom to the top."""
-    found: list[Layer] = []
+def layers(repository: Repository) -> Layers:
+    found: Layers = {}
     lines = [line for line in repository.read(CRATES).split("\n") if line]
     ours = {line.split(":")[0] for line in lines}
     for line in lines:
         if line.startswith("# "):
-            found.append(Layer(line[2:], []))
+            crates = found[line[2:]] = []
         else:
             name, _, below = line.partition(":")
-            found[-1].crates.append(Crate(name, [it for it in below.split() if it in ours], purpose(repository, name)))
+            about = repository.read(f"crates/{name}/README.md").split("\n\n")[1].replace("\n", " ").replace("`", "")
+            purpose, *_ = re.split(r"(?<=\.) ", about)
+            crates.append(Crate(name, [it for it in below.split() if it in ours], purpose))
     return found
 
 
-def used_layers(listed: list[Layer]) -> list[set[int]]:
-    """Of each layer, by its place, the places of the other ones that it stands on."""
-    place = {crate.name: at for at, layer in enumerate(listed) for crate in layer.crates}
-    return [{place[it] for crate in layer.crates for it in crate.stands_on} - {at} for at, layer in enumerate(listed)]
+def places(listed: Layers) -> dict[str, int]:
+    return {crate.name: at for at, crates in enumerate(listed.values()) for crate in crates}
 
 
-def arrows(used: list[set[int]]) -> Iterator[tuple[int, int]]:
-    """From which layer to which one an arrow goes."""
-    reached: list[set[int]] = []
-    for below in used:
+def arrows(listed: Layers) -> Iterator[tuple[int, int]]:
+    place, used, reached = places(listed), list[set[int]](), list[set[int]]()
+    for at, crates in enumerate(listed.values()):
+        below = {place[it] for crate in crates for it in crate.stands_on} - {at}
+        used.append(below)
         reached.append(below.union(*(reached[it] for it in below)))
     for at, below in enumerate(used):
-        for other in sorted(below):
-            if not any(other in reached[it] for it in below):
-                yield at, other
+        yield from ((at, other) for other in sorted(below) if not any(other in reached[it] for it in below))
 
 
-def box(crate: Crate, x: int, y: int, height: int) -> Iterator[str]:
-    """A crate's box: its name, and what it is for."""
-    yield f'<rect class="box" x="{x}" y="{y}" width="{BOX}" height="{height}" rx="4"/>'
-    yield f'<text class="crate" x="{x + 8}" y="{y + 17}">{crate.name}</text>'
-    for at, line in enumerate(textwrap.wrap(crate.purpose, LETTERS)):
-        yield f'<text x="{x + 8}" y="{y + 34 + LINE * at}">{html.escape(line, quote=False)}</text>'
-
-
-def band(layer: Layer, top: int) -> tuple[int, list[str]]:
+def band(name: str, crates: list[Crate], top: int) -> tuple[int, list[str]]:
     """A layer's band from a height on: the height at which it ends, and what is drawn."""
-    drawn, y = [f'<text class="layer" x="{LEFT + 10}" y="{top + 20}">{layer.name}</text>'], top + 30
-    for at in range(0, len(layer.crates), IN_A_ROW):
-        row = layer.crates[at : at + IN_A_ROW]
+    drawn, y = [f'<text class="layer" x="{LEFT + 10}" y="{top + 20}">{name}</text>'], top + 30
+    for at in range(0, len(crates), IN_A_ROW):
+        row = crates[at : at + IN_A_ROW]
         height = 28 + LINE * max(len(textwrap.wrap(it.purpose, LETTERS)) for it in row)
-        for column, crate in enumerate(row):
-            drawn += box(crate, LEFT + 10 + column * (BOX + GAP), y, height)
+        for crate, x in zip(row, range(LEFT + 10, WIDTH, BOX + GAP)):
+            drawn.append(f'<rect class="box" x="{x}" y="{y}" width="{BOX}" height="{height}" rx="4"/>')
+            drawn.append(f'<text class="crate" x="{x + 8}" y="{y + 17}">{crate.name}</text>')
+            for down, line in enumerate(textwrap.wrap(crate.purpose, LETTERS)):
+                drawn.append(f'<text x="{x + 8}" y="{y + 34 + LINE * down}">{html.escape(line, quote=False)}</text>')
         y += height + GAP
     return y, [f'<rect class="band" x="{LEFT}" y="{top}" width="{WIDTH - LEFT}" height="{y - top}" rx="6"/>', *drawn]
 
 
-def picture(listed: list[Layer]) -> str:
-    """The picture of the layers, the highest first."""
-    listed = [it for it in listed if it.name not in BESIDE]
-    middle: dict[int, int] = {}
-    drawn: list[str] = []
-    y = 0
-    for at in reversed(range(len(listed))):
-        end, parts = band(listed[at], y)
-        middle[at], y = (y + end) // 2, end + 12
+def picture(listed: Layers) -> str:
+    middle, drawn, y = list[int](), list[str](), 0
+    for name, crates in reversed(listed.items()):
+        end, parts = band(name, crates, y)
+        middle.insert(0, (y + end) // 2)
+        y = end + 12
         drawn += parts
-    for upper, lower in arrows(used_layers(listed)):
+    for upper, lower in arrows(listed):
         bend = LEFT - 14 - 14 * (upper - lower)
         ends = f"M {LEFT} {middle[upper] + 6} H {bend} V {middle[lower] - 6} H {LEFT - 3}"
         drawn.append(f'<path class="arrow" d="{ends}" marker-end="url(#head)"/>')
@@ -118,36 +96,24 @@ def picture(listed: list[Layer]) -> str:
     return "\n".join([opening, f"<style>{STYLE}</style>", f"<defs>{head}</defs>", *drawn, "</svg>"]) + "\n"
 
 
-def upward(listed: list[Layer]) -> Iterator[str]:
-    """Each crate that stands on one of a layer above its own."""
-    place = {crate.name: at for at, layer in enumerate(listed) for crate in layer.crates}
-    for at, layer in enumerate(listed):
-        for crate in layer.crates:
-            yield from (
-                f"{CRATES}: {crate.name} stands on {it}, which is above" for it in crate.stands_on if place[it] > at
-            )
-
-
-def paged(repository: Repository) -> list[tuple[str, list[str]]]:
-    """The layers of the page with their crates."""
-    parts = re.split(r"^### ", repository.read(PAGE).split("\n## ")[1], flags=re.M)[1:]
-    return [(it.split("\n")[0], re.findall(r"^\| `(\w+)` \|", it, flags=re.M)) for it in parts]
-
-
 def made(repository: Repository) -> dict[str, str]:
-    """The picture."""
-    return {PICTURE: picture(layers(repository))}
+    return {PICTURE: picture({name: its for name, its in layers(repository).items() if name not in BESIDE})}
 
 
 def differences(repository: Repository) -> Iterator[str]:
     """What is not as crates.txt has it, a line for each."""
     listed = layers(repository)
-    yield from upward(listed)
-    wanted = [(it.name, [crate.name for crate in it.crates]) for it in listed if it.name != "Tests"]
-    for there, here in zip(paged(repository) + [("", [])] * len(wanted), wanted):
+    place = places(listed)
+    for crate in (crate for crates in listed.values() for crate in crates):
+        above = (it for it in crate.stands_on if place[it] > place[crate.name])
+        yield from (f"{CRATES}: {crate.name} stands on {it}, which is above" for it in above)
+    wanted = [(name, [crate.name for crate in crates]) for name, crates in listed.items() if name != "Tests"]
+    parts = re.split(r"^### ", repository.read(PAGE).split("\n## ")[1], flags=re.M)[1:]
+    paged = [(it.split("\n")[0], re.findall(r"^\| `(\w+)` \|", it, flags=re.M)) for it in parts]
+    for there, here in zip(paged + [("", [])] * len(wanted), wanted):
         if there != here:
             yield f"{PAGE}: {there[0] or 'nothing'} with {', '.join(there[1])}: {CRATES} has {here[0]} with {', '.join(here[1])}"
 
 
 def summary(repository: Repository) -> str:
-    return f"{sum(len(it.crates) for it in layers(repository))} crates are drawn and listed as {CRATES} has them"
+    return f"{sum(map(len, layers(repository).values()))} crates are drawn and listed as {CRATES} has them"

@@ -1,12 +1,10 @@
 """docs/manual/make [--check] [PROGRAM]: makes the man page docs/cutlab.1 from the help of the program, in the form in which
-help2man makes one, with the sections of docs/manual/include. With --check it writes nothing, and says what differs.
-
-An option's range in the help is compared with what the program takes, as it says where it refuses a number.
-"""
+help2man makes one, with the sections of docs/manual/include. With --check it writes nothing, and says what differs. An option's
+range in the help is compared with what the program takes, as it says where it refuses a number."""
 import re
 from typing import Iterator
 
-from ..options import Command, commands, range_taken
+from ..options import Command, commands
 from ..repository import Repository
 from . import NotMade
 
@@ -21,7 +19,6 @@ def roff(text: str) -> str:
 
 
 def usage(command: Command) -> str:
-    """How a command is called, after the program's name."""
     return next(line for line in command.lines if line.startswith("Usage: ")).removeprefix("Usage: cutlab ")
 
 
@@ -38,15 +35,11 @@ def command_lines(command: Command) -> Iterator[str]:
         yield from (".PP", roff(line)) if line and not line.startswith("See ") else ()
 
 
-def sections(repository: Repository) -> dict[str, str]:
-    """The sections of the include, by their names: each begins with a line of its name in brackets."""
-    parts = re.split(r"^\[([A-Z ]+)\]\n", repository.read(INCLUDE), flags=re.M)
-    return dict(zip(parts[1::2], (it.strip("\n") for it in parts[2::2])))
-
-
 def made(repository: Repository) -> dict[str, str]:
-    """The page."""
-    listed, included = commands(repository), sections(repository)
+    listed = commands(repository)
+    # Each section of the include begins with a line of its name in brackets.
+    _, *given = re.split(r"^\[([A-Z ]+)\]\n", repository.read(INCLUDE), flags=re.M)
+    included = dict(zip(given[::2], (it.strip("\n") for it in given[1::2])))
     about, version = (repository.read(f"$ cutlab --{it}").split("\n")[0] for it in ("help", "version"))
     if not listed or "NAME" in included:
         raise NotMade("the help lists no commands, or the include has what is made")
@@ -63,8 +56,10 @@ def made(repository: Repository) -> dict[str, str]:
 def differences(repository: Repository) -> Iterator[str]:
     """The options whose help names another range than the program takes."""
     for command in commands(repository):
-        for option in (it for it in command.options if it.is_valued):
-            low, high = range_taken(repository, command.name, option)
+        for option in (it for it in command.options if it.takes == "value"):
+            refusal = repository.read(f"$ cutlab {command.name} --{option.name} 0")
+            found = re.search(r"0 is not in (\d+)\.\.=(\d+)", refusal)
+            low, high = found.groups() if found else ("?", "?")
             if not re.search(rf" from {low} to {high}(?!\d)", option.help):
                 yield f"the help: {command.name} --{option.name} takes {low} to {high}: {option.help}"
 

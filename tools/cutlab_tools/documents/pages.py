@@ -1,34 +1,31 @@
-"""Runs the commands of README.md, docs/GUIDE.md and docs/RUNNING.md in order, in a fresh copy of the repository, and compares what each
-prints with what the page shows after it: docs/try [PROGRAM]
+"""Runs the commands of README.md, docs/GUIDE.md and docs/RUNNING.md in order, in a fresh copy of the repository, and compares what
+each prints with what the page shows after it: docs/try [PROGRAM]
 
 A command is a line of an indented block that begins with "$ "; lines that are indented by ten places or more go on with
 it. The lines up to the next command are what it prints; a line "..." stands for any lines. A command that calls a tool
-which is not installed is skipped, and said so. What differs is printed, and the status is then 1.
-"""
+which is not installed is skipped, and said so. What differs is printed, and the status is then 1."""
 import re
 import shlex
 import shutil
 import subprocess
 import tempfile
-from dataclasses import dataclass, field
 from pathlib import Path
 from typing import Callable, NamedTuple
 
-from ..arguments import parser
+from ..commands import parser
 from ..paths import PAGES, ROOT, copy_repository
 
 # Tools that a reader may lack: a command that calls one is run where it is there.
 OPTIONAL = ("gnuplot", "parallel", "sbatch", "systemd-analyze")
 SECONDS = 900
+# A command of a page with the lines that go on with it, and the lines that it is to print.
+COMMAND = re.compile(r"^    \$ (.*(?:\n {10}.*)*)((?:\n    (?!\$ ).*)*)", re.M)
 
 
-@dataclass
-class Command:
-    """A command of a page: where it stands, its text, and the lines that it is to print."""
-
+class Command(NamedTuple):
     place: str
     text: str
-    shown: list[str] = field(default_factory=list)
+    shown: list[str]
 
     @property
     def lacks(self) -> str | None:
@@ -44,30 +41,17 @@ class Command:
         return "\n".join([f"{self.place}: $ {self.text}", *lines])
 
 
-class Trial(NamedTuple):
-    """How many commands were run, and what differs."""
-
-    tried: int
-    differing: list[str]
-
-
+# How many commands were run, and what differs.
+Trial = tuple[int, list[str]]
 Choice = Callable[[list[Command]], list[Command]]
 
 
 def commands(page: str) -> list[Command]:
-    """The commands of a page."""
-    found: list[Command] = []
-    inside = False
-    for number, line in enumerate((ROOT / page).read_text().split("\n"), 1):
-        if line.startswith("    $ "):
-            found.append(Command(f"{page}:{number}", line[6:]))
-            inside = True
-        elif not line.startswith("    "):
-            inside = False
-        elif inside and line.startswith(" " * 10) and not found[-1].shown:
-            found[-1].text += f"\n{line[10:]}"
-        elif inside:
-            found[-1].shown.append(line[4:])
+    text, found = (ROOT / page).read_text(), list[Command]()
+    for it in COMMAND.finditer(text):
+        line = text.count("\n", 0, it.start()) + 1
+        shown = [line[4:] for line in it[2].split("\n")[1:]]
+        found.append(Command(f"{page}:{line}", it[1].replace("\n" + " " * 10, "\n"), shown))
     return found
 
 
@@ -80,21 +64,21 @@ def try_commands(listed: list[Command], place: Path, seconds: float = SECONDS) -
         script = "\n".join([*runs, end])
         subprocess.run(["bash", "-c", script], cwd=place, timeout=seconds, stdin=subprocess.DEVNULL)
         printed = [it.read_text(errors="replace").rstrip("\n").split("\n") if it.exists() else [] for it in files]
-    for it in listed:
-        if it.lacks:
-            print(f"try: {it.place}: skipped, as {it.lacks} is not installed")
+    for it in (it for it in listed if it.lacks):
+        print(f"try: {it.place}: skipped, as {it.lacks} is not installed")
     found = [it.difference(lines) for it, lines in zip(listed, printed) if not it.lacks]
-    return Trial(len(found), [it for it in found if it])
+    return len(found), [it for it in found if it]
 
 
 def try_pages(program: Path, choose: Choice = list, seconds: float = SECONDS) -> Trial:
-    """Runs commands of the pages, each page in a copy of the repository of its own."""
-    trials = []
+    """Runs commands of the pages, each page in a copy of its own."""
+    tried, differing = 0, list[str]()
     for page in PAGES:
         with tempfile.TemporaryDirectory() as place:
             copy_repository(Path(place), program)
-            trials.append(try_commands(choose(commands(page)), Path(place), seconds))
-    return Trial(sum(it.tried for it in trials), [line for it in trials for line in it.differing])
+            count, found = try_commands(choose(commands(page)), Path(place), seconds)
+            tried, differing = tried + count, differing + found
+    return tried, differing
 
 
 def main() -> int:

@@ -1,30 +1,20 @@
-"""docs/refuses [PROGRAM]: shows that the checks of documents refuse a document that is not that of the sources or of the
-program. It makes each of the changes of tests/data/refuses.json in what the checks read, of which the other side has
-nothing, and expects a refusal. It prints what was accepted, and ends with 1 where something was.
-"""
+"""docs/refuses [PROGRAM]: shows that the checks of documents refuse what is not that of the sources or of the program: each change
+of tests/data/refuses.json in what they read. It prints what was accepted, and ends with 1 where something was."""
+import importlib
 import json
-from types import ModuleType
 from typing import Any, Iterator
 
+from ..commands import module_of
 from ..paths import DATA
 from ..repository import Repository
-from . import NotMade, completions, faults, found_in, layers, manual, schema, statement
+from . import NotMade, found_in
 
 CHANGES: list[dict[str, Any]] = json.loads((DATA / "refuses.json").read_text())
-CHECKS: dict[str, ModuleType] = {
-    "docs/statement/make --check": statement,
-    "docs/statement/make": statement,
-    "docs/schema": schema,
-    "docs/manual/make --check": manual,
-    "docs/completions/make --check": completions,
-    "docs/faults": faults,
-    "docs/layers/make --check": layers,
-}
 
 
 def is_refused(check: str, repository: Repository) -> bool:
     """Whether a command refuses the documents, or can make nothing of what it reads."""
-    module = CHECKS[check]
+    module = importlib.import_module(module_of(check.split()[0]))
     try:
         if check.endswith("/make"):
             return not module.made(repository)
@@ -35,7 +25,8 @@ def is_refused(check: str, repository: Repository) -> bool:
 
 def differences(repository: Repository) -> Iterator[str]:
     """What the checks accept, a line for each change; and what is not as the list of changes has it."""
-    yield from (f"{check} refuses the documents as they are" for check in CHECKS if is_refused(check, repository))
+    checks = dict.fromkeys(change["check"] for change in CHANGES)
+    yield from (f"{check} refuses the documents as they are" for check in checks if is_refused(check, repository))
     for change in CHANGES:
         name, old = change["file"], change["old"]
         if old not in repository.read(name):

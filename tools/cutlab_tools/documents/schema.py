@@ -1,7 +1,5 @@
-"""Checks docs/plan.schema.json: that the plans of the repository are of it, and that its fields are those that the program
-explains, with the same kinds and ranges, which `cutlab check` keeps: docs/schema [PROGRAM]. It prints what differs, and
-ends with 1 where something does.
-"""
+"""Checks docs/plan.schema.json: docs/schema [PROGRAM]. The plans of the repository are of it, and its fields are those that the
+program explains, with the same kinds and ranges, which `cutlab check` keeps. What differs is printed, and the status is then 1."""
 import json
 import re
 from typing import Any, Callable, Iterator
@@ -32,7 +30,6 @@ NOTES = ("$schema", "title", "description", "then", "else")
 
 
 def is_of(schema: Any, value: Any) -> bool:
-    """Whether a value is of a schema."""
     if isinstance(schema, bool):
         return schema
     return all(TESTS[word](said, value, schema) for word, said in schema.items() if word not in NOTES)
@@ -41,10 +38,9 @@ def is_of(schema: Any, value: Any) -> bool:
 def explained(repository: Repository) -> dict[str, set[str]]:
     """What the program says that it expects in each field, by all versions."""
     found: dict[str, set[str]] = {}
-    for plan in ("{}", '{"version":1}', '{"version":2}'):
-        said = repository.read(f"$ cutlab explain < {plan}")
-        for name, expected in re.findall(r"^(\w+): missing; expected (.*)$", said, re.M):
-            found.setdefault(name, set()).add(expected)
+    said = "".join(repository.read(f"$ cutlab explain < {it}") for it in ("{}", '{"version":1}', '{"version":2}'))
+    for name, expected in re.findall(r"^(\w+): missing; expected (.*)$", said, re.M):
+        found.setdefault(name, set()).add(expected)
     return found
 
 
@@ -58,10 +54,8 @@ def described(part: Any, nodes: int) -> str:
         texts = " or ".join(f'"{it}"' for it in items.get("enum", []))
         return f"a text of {digits[1]} hexadecimal digits" if digits else texts
     low, high = range_of(part)
-    if items is part:
-        return f"a whole number from {low} to {high}"
-    bounds = "below nodes" if (low, high) == (0, nodes - 1) else f"from {low} to {high}"
-    return f"a strictly rising list of whole numbers {bounds}"
+    bounds = "below nodes" if items is not part and (low, high) == (0, nodes - 1) else f"from {low} to {high}"
+    return f"a {'whole number' if items is part else 'strictly rising list of whole numbers'} {bounds}"
 
 
 def range_of(part: Any) -> tuple[int, int]:
@@ -82,7 +76,6 @@ def out_of_range(repository: Repository, name: str, part: Any) -> Iterator[str]:
 
 
 def differences(repository: Repository) -> Iterator[str]:
-    """What differs, a line for each."""
     schema, wanted = json.loads(repository.read(SCHEMA)), explained(repository)
     fields = schema["properties"]
     yield from (f"{name}: in one alone" for name in sorted(set(fields) ^ set(wanted)))

@@ -1,7 +1,5 @@
 """docs/statement/make [--check]: writes docs/STATEMENT.md, every definition that the program's theorem cites, word for
-word, in the order of docs/statement/skeleton.md. With --check it writes nothing, and fails where the page isn't that.
-
-The skeleton is prose with lines of these kinds:
+word, in the order of docs/statement/skeleton.md, which is prose with lines of these kinds:
 
     {{theorem FILE FUNCTION}}      the contract of a function, with which the closure begins
     {{definitions MODULE..}}       those of the closure that stand in these specs, as crate/File
@@ -10,11 +8,10 @@ The skeleton is prose with lines of these kinds:
     {{counts}}                     how many definitions and lines there are
     {{needs COMMAND MODULE:NAME..}}   how many of them a command needs, whose end these definitions say
 
-It fails where the theorem cites a definition of a folder specs/inside: these say how a crate keeps its values,
-and are for its own clauses and proofs.
-"""
+With --check it writes nothing, and fails where the page isn't that. It fails where the theorem cites a definition of a folder
+specs/inside: these say how a crate keeps its values, and are for its own clauses and proofs."""
 import re
-from typing import Iterable, Iterator, NamedTuple
+from typing import Iterable, Iterator, Optional
 
 from ..repository import Repository
 from . import NotMade
@@ -27,13 +24,7 @@ USE = re.compile(r"use ([\w.]+?)(?:\.\{(.*)\})?(?: as (\w+))?$")
 ITEM = r"((?:^ *///[^\n]*\n|^ *#\[[^\n]*\n)*)^ *(?:pub(?:\(crate\))? )?(?:struct|enum|trait|const) %s\b.*?(?:^}|;)\n"
 CONTRACT = r"((?:^ *///[^\n]*\n)*)^ *pub fn %s\b.*?\n(?= *{\n)"
 CLAUSE = re.compile(r"(?:ensures|requires)[^{]*\{(.*?)\}\s*(?=ensures|requires|$)", re.S)
-
-
-class Cited(NamedTuple):
-    """A name of a module."""
-
-    module: str
-    name: str
+Cited = tuple[str, str]  # a module, and a name of it
 
 
 def without_comments(text: str) -> str:
@@ -55,17 +46,14 @@ class Uses:
     """The names that a file takes from others: each with its module and its name there."""
 
     def __init__(self, lines: Iterable[str]) -> None:
-        self.names: dict[str, Cited] = {}
-        self.modules: dict[str, str] = {}
+        self.names, self.modules = dict[str, Cited](), dict[str, str]()
         for line in lines:
             found = USE.match(line)
             if not found:
                 raise NotMade(f"can't read: {line}")
             module, names, alias = found.groups()
-            for name in re.split(r",\s*", names or ""):
-                own, _, other = name.partition(" as ")
-                if own:
-                    self.names[other or own] = Cited(module, own)
+            for own, other in re.findall(r"([^\s,]+)(?: as ([^\s,]+))?", names or ""):
+                self.names[other or own] = module, own
             if alias:
                 self.modules[alias] = module
 
@@ -73,16 +61,17 @@ class Uses:
         """What a token of this file's text stands for, if it is another file's."""
         head, _, rest = token.partition(".")
         found = self.names.get(token) or self.names.get(head)
-        return Cited(self.modules[head], rest.split(".")[0]) if not found and head in self.modules and rest else found
+        is_of_module = not found and head in self.modules and rest
+        return (self.modules[head], rest.split(".")[0]) if is_of_module else found
 
 
 class Spec:
     """A file of definitions: its paragraphs, each with the names that it defines."""
 
-    def __init__(self, path: str, text: str) -> None:
-        self.path, self.uses = path, Uses(line for line in text.split("\n") if line.startswith("use "))
-        self.paragraphs: list[str] = []
-        self.place: dict[str, int] = {}
+    def __init__(self, module: str, path: str, text: str) -> None:
+        self.module, self.path = module, path
+        self.uses = Uses(line for line in text.split("\n") if line.startswith("use "))
+        self.paragraphs, self.place = list[str](), dict[str, int]()
         for paragraph in re.split(r"\n\s*\n", text):
             lines = [line for line in paragraph.split("\n") if not line.startswith(("use ", "pub use "))]
             lines = [line for line in lines if not line.strip().startswith("-- ----")]
@@ -98,17 +87,16 @@ class Closure:
     """What contracts cite, and what that cites in turn."""
 
     def __init__(self, repository: Repository) -> None:
-        self.repository = repository
-        self.specs: dict[str, Spec | None] = {}
-        self.found: dict[tuple[str, int], str] = {}
-        self.types: dict[tuple[str, str], str] = {}
+        self.repository, self.specs = repository, dict[str, Optional[Spec]]()
+        self.found, self.types = dict[tuple[str, int], str](), dict[tuple[str, str], str]()
         self.outside: dict[str, set[str]] = {}
 
     def spec(self, module: str) -> Spec | None:
         if module not in self.specs:
             found = re.match(r"Rattle\.(\w+)\.specs\.(.+)$", module)
             path = found and f"crates/{found[1]}/specs/{found[2].replace('.', '/')}.antt"
-            self.specs[module] = Spec(path, self.repository.read(path)) if path and self.repository.has(path) else None
+            is_there = path and self.repository.has(path)
+            self.specs[module] = Spec(module, path, self.repository.read(path)) if path and is_there else None
         return self.specs[module]
 
     def visit(self, cited: Cited) -> None:
@@ -123,19 +111,18 @@ class Closure:
         if spec is None:
             self.outside.setdefault(module, set()).add(name)
         elif name in spec.place:
-            self.visit_paragraph(module, spec, spec.place[name])
+            self.visit_paragraph(spec, spec.place[name])
         elif used := spec.uses.of(name):
             self.visit(used)
         else:
             raise NotMade(f"{module} has no {name}")
 
-    def visit_paragraph(self, module: str, spec: Spec, place: int) -> None:
-        if (module, place) not in self.found:
-            self.found[module, place] = spec.paragraphs[place]
-            self.follow(spec.uses, spec.paragraphs[place], module, spec)
+    def visit_paragraph(self, spec: Spec, place: int) -> None:
+        if (spec.module, place) not in self.found:
+            self.found[spec.module, place] = spec.paragraphs[place]
+            self.follow(spec.uses, spec.paragraphs[place], spec)
 
     def visit_type(self, path: str, name: str) -> None:
-        """Adds a type, or a constant, of a crate's sources."""
         if (path, name) in self.types:
             return
         text = self.repository.read(path)
@@ -147,17 +134,15 @@ class Closure:
             if re.search(rf"(?<![\w.]){re.escape(own)}(?!\w)", without_comments(item)):
                 self.visit(cited)
 
-    def follow(self, uses: Uses, text: str, module: str = "", spec: Spec | None = None) -> None:
-        """Adds all that a text cites."""
+    def follow(self, uses: Uses, text: str, spec: Spec | None = None) -> None:
         for token in TOKEN.findall(without_comments(text)):
             head = token.split(".")[0]
             if used := uses.of(token):
                 self.visit(used)
             elif spec and head in spec.place:
-                self.visit_paragraph(module, spec, spec.place[head])
+                self.visit_paragraph(spec, spec.place[head])
 
     def counts(self) -> tuple[int, int]:
-        """How many definitions there are, and how many lines without comments."""
         lines = [line.strip() for text in self.found.values() for line in text.split("\n")]
         return len(self.found), sum(bool(line) and not line.startswith("--") for line in lines)
 
@@ -176,19 +161,12 @@ class Page:
             raise NotMade(f"{path} has no public {function}")
         return found[0].rstrip("\n")
 
-    def cite(self, path: str, function: str) -> None:
-        """Adds all that the contract of a function cites."""
-        uses = Uses(ghost_uses(self.repository.read(path)))
-        for clause in CLAUSE.findall(self.contract(path, function)):
-            self.closure.follow(uses, clause)
-
     def theorem(self, path: str, function: str) -> list[str]:
         return ["```rust", self.contract(path, function), "```"]
 
     def definitions(self, *words: str) -> list[str]:
         lines = []
-        for word in words:
-            module = module_of(word)
+        for word, module in zip(words, map(module_of, words)):
             spec = self.closure.spec(module)
             if spec is None:
                 raise NotMade(f"the skeleton names {word}, and there is no such file")
@@ -202,7 +180,6 @@ class Page:
         return [line for path in paths for line in self.block(path, path, "rust", texts[path])]
 
     def block(self, home: str, path: str, language: str, texts: list[str]) -> list[str]:
-        """What is cited of one file."""
         if not texts:
             raise NotMade(f"the skeleton names {path}, of which nothing is cited")
         self.placed.add(home)
@@ -219,29 +196,26 @@ class Page:
 
     def needs(self, command: str, *words: str) -> list[str]:
         closure = Closure(self.repository)
-        for module, _, name in (word.partition(":") for word in words):
-            closure.visit(Cited(module_of(module), name))
+        for module, name in (word.split(":") for word in words):
+            closure.visit((module_of(module), name))
         count, lines = closure.counts()
         return [f"Of these {count} definitions of {lines} lines are what `{command}` needs."]
 
     def text(self) -> str:
         skeleton = self.repository.read(SKELETON).rstrip("\n").split("\n")
         said = [line.strip("{}").split() if line.startswith("{{") else [] for line in skeleton]
-        for words in said:
-            if words[:1] == ["theorem"]:
-                self.cite(*words[1:])
+        for path, function in (words[1:] for words in said if words[:1] == ["theorem"]):
+            uses = Uses(ghost_uses(self.repository.read(path)))
+            for clause in CLAUSE.findall(self.contract(path, function)):
+                self.closure.follow(uses, clause)
         parts = [getattr(self, words[0])(*words[1:]) if words else [line] for line, words in zip(skeleton, said)]
-        self.check_places()
-        return re.sub(r"\n{3,}", "\n\n", "\n".join(line for part in parts for line in part)).rstrip("\n") + "\n"
-
-    def check_places(self) -> None:
-        """Checks that all that is cited has a place on the page, and may have one."""
         wanted = {home for home, _ in (*self.closure.found, *self.closure.types)}
         inside = sorted(module for module in wanted if ".specs.inside." in module)
         if inside:
             raise NotMade("the theorem cites what is inside of a crate: " + ", ".join(inside))
         if wanted - self.placed:
             raise NotMade("the skeleton has no place for " + ", ".join(sorted(wanted - self.placed)))
+        return re.sub(r"\n{3,}", "\n\n", "\n".join(line for part in parts for line in part)).rstrip("\n") + "\n"
 
 
 def made(repository: Repository) -> dict[str, str]:

@@ -1,6 +1,5 @@
 """Checks docs/GLOSSARY.md: each term has a home that is there, stands in the order of the alphabet, has one meaning, and is used
-in a page or a source beside the glossary. It prints what it finds, and ends with 1 where it found something.
-"""
+in a page or a source beside the glossary. It prints what it finds, and ends with 1 where it found something."""
 import re
 from typing import Iterator
 
@@ -8,27 +7,18 @@ from ..paths import tracked_files
 from ..repository import Repository
 
 GLOSSARY = "docs/GLOSSARY.md"
-TEXTS = ("*.rt", "*.antt", "*.md")
-HEADINGS = ("## Of the field", "## Of this program")
 
 
 def terms(repository: Repository) -> Iterator[tuple[str, str, str]]:
     """The terms with the heading that they stand under and their homes."""
-    for heading in HEADINGS:
+    for heading in ("## Of the field", "## Of this program"):
         yield from ((heading, term, home.strip("`")) for term, _, home in repository.rows(GLOSSARY, heading))
 
 
-def is_used(term: str, text: str) -> bool:
-    """Whether a term, without what stands in brackets after it, is a word of a text in lower case, in singular or plural."""
-    word = re.escape(re.sub(r" \(.*", "", term).lower()).replace("\\ ", r"\s+")
-    return bool(re.search(rf"(?<!\w){word}(e?s)?(?!\w)", text))
-
-
 def differences(repository: Repository) -> Iterator[str]:
-    """What is wrong with the glossary, a line for each."""
-    text = "\n".join(repository.read(it) for it in tracked_files(*TEXTS) if it != GLOSSARY).lower()
-    before = ("", "")
-    seen: set[str] = set()
+    texts = tracked_files("*.rt", "*.antt", "*.md")
+    text = "\n".join(repository.read(it) for it in texts if it != GLOSSARY).lower()
+    before, seen = ("", ""), set[str]()
     for heading, term, home in terms(repository):
         if not repository.has(home):
             yield f"{GLOSSARY}: {term}: its home {home} is not there"
@@ -36,7 +26,9 @@ def differences(repository: Repository) -> Iterator[str]:
             yield f"{GLOSSARY}: {term}: it stands after {before[1]}"
         if term in seen:
             yield f"{GLOSSARY}: {term}: it has two meanings"
-        if not is_used(term, text):
+        # A term is used without what stands in brackets after it, in singular or plural.
+        word = re.escape(re.sub(r" \(.*", "", term).lower()).replace("\\ ", r"\s+")
+        if not re.search(rf"(?<!\w){word}(e?s)?(?!\w)", text):
             yield f"{GLOSSARY}: {term}: nothing uses it"
         seen.add(term)
         before = (heading, term)

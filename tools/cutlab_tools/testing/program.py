@@ -1,5 +1,4 @@
-"""tests/program [PROGRAM] [-k NAME]: what a built program does with its words, its files and its streams. Each difference
-is printed; the last line says how many there are."""
+"""tests/program [PROGRAM] [-k NAME]: what a built program does with its words, files and streams. Each difference is printed."""
 import contextlib
 import hashlib
 import json
@@ -15,8 +14,8 @@ from typing import Any, Sequence
 
 from ..paths import DATA, ROOT, reference
 from ..plans import SMALLEST, Plan, upgrade
-from ..program import Child, Ended, Program, Word, connect, end_of
-from .cases import Cases
+from ..program import Child, Ended, Program, Word, connect, end_of, refused
+from . import Cases
 
 # Tables that were worked out by hand, command lines with a mistake, and names of files as a line quotes them.
 TABLES: dict[str, list[Any]] = json.loads((DATA / "program.json").read_text())
@@ -31,20 +30,17 @@ TABLE, UPGRADE_TABLE = f"{HEADER}{ROW}\n", f"{UPGRADE_HEADER}{UPGRADE_ROW}\n"
 # The name of the plan's file in a server's folder.
 NAME = f"{hashlib.sha256(PLAN).hexdigest()}.cut"
 HEAD, SLIP = 45 + len(PLAN), 105
+# The fault of a text of so many blanks.
+BLANKS = {65_536: "1 NotJson", 65_537: "19 PlanTooLong", 70_000: "19 PlanTooLong"}
 
 
 def plan_with(**fields: Any) -> bytes:
-    """The plan with other values in some of its fields."""
     return reference.canonical_text({**FIELDS, **fields})
 
 
-def line_of(fault: str) -> str:
-    return f"cutlab: fault {fault}\n"
-
-
-def refused(fault: str, status: int = 4) -> Ended:
-    """How a command ends with a fault."""
-    return Ended("", line_of(fault), status)
+def named(file: str, fault: str) -> Ended:
+    """How a join ends with the fault of a file that it names."""
+    return Ended("", f"cutlab: file {file}\ncutlab: fault {fault}\n", 4)
 
 
 def limit_files(room: int) -> None:
@@ -60,11 +56,12 @@ class ProgramCases(Cases):
         """Compares how a command ends; words alone are its whole output."""
         self.expect_run(Ended(wanted) if isinstance(wanted, str) else wanted, *line.split(), text=text)
 
-    def says(self, wanted: Ended, found: Ended, what: str) -> None:
-        """Compares how a command ended that has to print this among other things, and nothing where it is empty."""
-        pairs = ((wanted.output, found.output), (wanted.errors, found.errors))
-        is_said = [bool(one) == bool(other) and one in other for one, other in pairs]
-        self.expect(what, (wanted.status, [True, True]), (found.status, is_said))
+    def ends_soon(self, line: str, wanted: Ended) -> None:
+        """Compares how a command ends that has to wait for nobody."""
+        found = Ended("", "it waits")
+        with contextlib.suppress(subprocess.TimeoutExpired):
+            found = self.program.run(*line.split(), text=PLAN, limit=10)
+        self.expect(line, wanted, found)
 
     def names(self) -> list[str]:
         return sorted(it.name for it in self.folder.iterdir())
@@ -77,17 +74,14 @@ class ProgramCases(Cases):
         """How a client ends, once one ends with this status and by none of the faults that pass."""
         for _ in range(1000):
             found = self.program.run("ask", "socket", text=PLAN)
-            if found.status == status and found.errors not in map(line_of, passing):
+            if found.status == status and found not in map(refused, passing):
                 break
             time.sleep(0.01)
         return found
 
 
 class Studies(ProgramCases):
-    """Tables, and what is said of plans."""
-
     def test_small_studies(self) -> None:
-        """Tables that were worked out by hand, by some workers and by pieces of some sizes."""
         versions = (FIELDS, HEADER, TABLES["small"]), (UPGRADE_FIELDS, UPGRADE_HEADER, TABLES["small_upgrades"])
         for plan, header, rows in versions:
             for fields, row in rows:
@@ -96,8 +90,7 @@ class Studies(ProgramCases):
                     self.ends(f"run {words}", f"{header}{row}\n", text)
 
     def test_large_studies(self) -> None:
-        """The tables of 65 cells, one more than a word has bits, in which no process fails, from results and from slips; and
-        of 1,999 processes on 31 rings, of which one crashes, each alert in four copies."""
+        """65 cells, one more than a word has bits, from results and from slips; and 1,999 processes on 31 rings."""
         cells = plan_with(f=[0], h=list(range(20, 25)), k=[32], l=list(range(1, 14)), repeats=1)
         rows = "".join(f"32,{h},{l},0,1,5,0,5,0,0,0,0,0\n" for h in range(20, 25) for l in range(1, 14))
         for _ in range(2):
@@ -106,18 +99,15 @@ class Studies(ProgramCases):
         found = self.program.run("run", text=rings, limit=600)
         self.expect("31 rings", Ended(f"{HEADER}31,31,1,1,1,1998,0,0,0,1998,1,1,0\n"), found)
 
-    def test_counts(self) -> None:
-        """What `check` says of a large study, and the quorums of some numbers of processes."""
-        large = plan_with(nodes=1000, k=[10], h=[6, 7, 8, 9], l=[1, 2, 3, 4], f=[2, 4, 8, 16], repeats=20, dead="speak")
-        self.ends("check", "cells 64\ntrials 1280\nquorum 751\n", large)
-        for nodes, quorum in ((2, 2), (4, 4), (5, 4), (9, 7)):
-            self.ends("check", f"cells 1\ntrials 2\nquorum {quorum}\n", plan_with(nodes=nodes))
-
     def test_answers(self) -> None:
         for line in ("run", "run --workers 3"):
             self.ends(line, TABLE)
         self.ends("check", "cells 1\ntrials 2\nquorum 4\n")
         self.ends("canonical", f"{PLAN.decode()}\n")
+        large = plan_with(nodes=1000, k=[10], h=[6, 7, 8, 9], l=[1, 2, 3, 4], f=[2, 4, 8, 16], repeats=20, dead="speak")
+        self.ends("check", "cells 64\ntrials 1280\nquorum 751\n", large)
+        for nodes, quorum in ((2, 2), (4, 4), (5, 4), (9, 7)):
+            self.ends("check", f"cells 1\ntrials 2\nquorum {quorum}\n", plan_with(nodes=nodes))
 
     def test_progress(self) -> None:
         output, errors, status = self.program.run("run", "--progress", text=PLAN)
@@ -128,7 +118,7 @@ class Studies(ProgramCases):
         output, errors, status = self.program.run("explain", text=PLAN)
         self.expect("explain", (0, "accepted\ncells 1\ntrials 2\nquorum 4\n", ""), (status, output[:35], errors))
         why = "refused: 2 NotObject\nfound an empty list; expected an object, in braces\n"
-        self.ends("explain", Ended(why, line_of("2 NotObject"), 3), b"[]")
+        self.ends("explain", refused("2 NotObject", 3)._replace(output=why), b"[]")
 
     def test_refusals(self) -> None:
         texts = {b"": "1 NotJson", b"[]": "2 NotObject", b'{"x":0}': "3 UnknownField", b"{}": "4 MissingField copies"}
@@ -143,14 +133,11 @@ class Studies(ProgramCases):
         three: Plan = dict(**every, k=[3], h=[1, 2, 3])
         self.ends("check", refused("10 TooManyTrials", 3), plan_with(**three))
         self.ends("check", refused("9 TooManyFaults", 3), plan_with(**{**three, "liars": 2048}))
-        for size, fault in ((65_536, "1 NotJson"), (65_537, "19 PlanTooLong"), (70_000, "19 PlanTooLong")):
-            found = self.program.run("check", text=b" " * size)
-            self.expect(f"check of {size} blanks", refused(fault, 3), found)
+        for size, fault in BLANKS.items():
+            self.expect(f"check of {size} blanks", refused(fault, 3), self.program.run("check", text=b" " * size))
 
 
 class Checkpoints(ProgramCases):
-    """Studies in files."""
-
     def test_checkpoints(self) -> None:
         """A checkpoint is opened before anything is read, and kept."""
         self.file("folder").mkdir()
@@ -165,8 +152,7 @@ class Checkpoints(ProgramCases):
             self.ends(f"status {path}", refused("20 Disk"), b"")
 
     def test_resumed(self) -> None:
-        """Studies that go on from files with more slips than a word has bits, and from a slip that could be true and is
-        not."""
+        """Studies that go on from files with more slips than a word has bits, and from a false slip that could be true."""
         many, line = plan_with(repeats=130), "run --piece 1 --checkpoint many.cut"
         table, start = f"{HEADER}1,1,1,1,130,520,0,0,0,520,130,130,0\n", 45 + len(plan_with(repeats=130))
         self.ends(line, table, many)
@@ -220,10 +206,7 @@ class Checkpoints(ProgramCases):
         self.ends("run --checkpoint study.cut", TABLE)
         os.mkfifo(self.file("pipe"))
         for line in TABLES["blocking"]:
-            found = Ended("", "it waits")
-            with contextlib.suppress(subprocess.TimeoutExpired):
-                found = self.program.run(*line.split(), text=PLAN, limit=10)
-            self.expect(line, refused("20 Disk"), found)
+            self.ends_soon(line, refused("20 Disk"))
 
 
 class PlanFiles(ProgramCases):
@@ -261,38 +244,29 @@ class PlanFiles(ProgramCases):
         self.file("folder").mkdir()
         os.mkfifo(self.file("pipe"))
         texts = {"bad.json": (b"{}", "4 MissingField copies"), "empty.json": (b"", "1 NotJson")}
-        sizes = {65_536: "1 NotJson", 65_537: "19 PlanTooLong", 70_000: "19 PlanTooLong"}
-        texts |= {f"{size}.json": (b" " * size, fault) for size, fault in sizes.items()}
-        faults = {name: refused(fault, 3) for name, (_, fault) in texts.items()}
-        faults |= {name: refused("20 Disk") for name in ("folder", "pipe", "none.json", "/dev/null")}
-        for name, (text, _) in texts.items():
+        texts |= {f"{size}.json": (b" " * size, fault) for size, fault in BLANKS.items()}
+        faults = {name: refused("20 Disk") for name in ("folder", "pipe", "none.json", "/dev/null")}
+        for name, (text, fault) in texts.items():
             self.file(name).write_bytes(text)
+            faults[name] = refused(fault, 3)
         for name, wanted in faults.items():
             for line in ("run {0}", "check {0}", "canonical {0}", "share 1/1 share.cut --plan {0}"):
-                found: Ended | str = "it waits"
-                try:
-                    found = self.program.run(*line.format(name).split(), text=PLAN, limit=10)
-                except subprocess.TimeoutExpired:
-                    pass
-                self.expect(line.format(name), wanted, found)
+                self.ends_soon(line.format(name), wanted)
 
     def test_own_checkpoint(self) -> None:
         """A plan's file is not taken for a checkpoint, and stays byte for byte."""
         self.file("plan.json").write_bytes(PLAN)
-        self.ends("run --checkpoint plan.json plan.json", refused("22 NoStudy"), b"")
-        self.ends("share 1/1 plan.json --plan plan.json", refused("22 NoStudy"), b"")
-        self.ends("migrate plan.json new.cut --plan plan.json", refused("22 NoStudy"), b"")
+        for line in ("run --checkpoint {0} {0}", "share 1/1 {0} --plan {0}", "migrate {0} new.cut --plan {0}"):
+            self.ends(line.format("plan.json"), refused("22 NoStudy"), b"")
         self.expect("the plan's file", PLAN, self.file("plan.json").read_bytes())
 
 
 class Machines(ProgramCases):
-    """Shares and joins."""
-
     def test_joins(self) -> None:
         self.file("empty.cut").touch()
         faults = {"none.cut": "20 Disk", "empty.cut": "22 NoStudy", "joined.cut": "20 Disk"}
-        none, empty, same = (Ended("", f'cutlab: file 2: "{name}"\n{line_of(it)}', 4) for name, it in faults.items())
-        first = none._replace(errors=none.errors.replace("file 2", "file 1"))
+        none, empty, same = (named(f'2: "{name}"', it) for name, it in faults.items())
+        first = named('1: "none.cut"', "20 Disk")
         self.ends("share 1/1 share.cut", "share 1 of 1: 2 of 2\n")
         self.ends("join joined.cut share.cut none.cut", refused("20 Disk"))
         self.ends("join --which joined.cut share.cut none.cut", none)
@@ -305,40 +279,33 @@ class Machines(ProgramCases):
         self.ends("join --which joined.cut share.cut joined.cut", same)
         self.expect("the files of the joins", ["empty.cut", "joined.cut", "share.cut"], self.names())
         for name, quoted in TABLES["quoted"]:
-            wanted = Ended("", f'cutlab: file 2: "{quoted}"\n{line_of("20 Disk")}', 4)
             found = self.program.run("join", "--which", "other.cut", "share.cut", name, text=PLAN)
-            self.expect(f"the line of {name!r}", wanted, found)
+            self.expect(f"the line of {name!r}", named(f'2: "{quoted}"', "20 Disk"), found)
 
-    def files_of(self, plan: bytes, count: int) -> dict[str, int]:
-        """Files with one slip each, of the first trials of a plan: the trial of each name."""
-        status = self.program.run("run", "--piece", "1", "--checkpoint", "whole.cut", text=plan).status
-        self.expect("a study in pieces of one trial", 0, status)
-        whole, start = self.file("whole.cut").read_bytes(), 45 + len(plan)
-        trials = {f"{(7 * trial) % count}.cut": trial for trial in range(count)}
+    def test_joins_of_many(self) -> None:
+        """Joins of more files than a word has bits, and of as many as are joined at most, each with the slip of one trial.
+        The files stay as they are."""
+        many = plan_with(repeats=1000)
+        done = self.program.run("run", "--piece", "1", "--checkpoint", "whole.cut", text=many)
+        self.expect("a study in pieces of one trial", 0, done.status)
+        whole, start = self.file("whole.cut").read_bytes(), 45 + len(many)
+        trials = {f"{(7 * trial) % 1000}.cut": trial for trial in range(1000)}
         for name, trial in trials.items():
             slip = whole[start + trial * SLIP : start + (trial + 1) * SLIP]
             self.file(name).write_bytes(whole[:start] + slip + b"\0")
-        return trials
-
-    def test_joins_of_many(self) -> None:
-        """Joins of more files than a word has bits, and of as many as are joined at most. The files stay as they are."""
-        many = plan_with(repeats=1000)
-        trials = self.files_of(many, 1000)
         names = sorted(trials)
         before = [self.file(name).read_bytes() for name in names]
         for count in (65, 1000):
             joined = {trials[name] for name in names[:count]}
             ranges = sum(trial - 1 not in joined for trial in joined)
             found = self.program.run("join", f"joined{count}.cut", *names[:count], text=many)
-            wanted = Ended(f"joined {count} into {ranges}, {count} of 1000\n")
-            self.expect(f"a join of {count} files", wanted, found)
+            self.expect(f"a join of {count} files", Ended(f"joined {count} into {ranges}, {count} of 1000\n"), found)
         is_same = before == [self.file(name).read_bytes() for name in names]
         self.expect("whether files that were joined stay as they were", True, is_same)
         self.ends("run --checkpoint joined1000.cut", f"{HEADER}1,1,1,1,1000,4000,0,0,0,4000,1000,1000,0\n", many)
 
     def test_resumed_share(self) -> None:
-        """The progress of a share that goes on from one of its two blocks: all lines are of four trials, of which two are held
-        at first and all at the end."""
+        """The progress of a share of four trials that goes on from one of its two blocks."""
         plan, row = plan_with(repeats=8), "share 1/2 --piece 2 --workers 3 share.cut"
         self.ends(row, "share 1 of 2: 4 of 4\n", plan)
         whole, start = self.file("share.cut").read_bytes(), 45 + len(plan)
@@ -347,28 +314,26 @@ class Machines(ProgramCases):
         output, errors, status = self.program.run(*row.split(), "--progress", text=plan)
         lines = re.findall("(?m)^cutlab: ([0-9]+) of ([0-9]+) trials, [0-9]+ s(?:, about [0-9]+ s left)?$", errors)
         self.expect("a resumed share", (0, "share 1 of 2: 4 of 4\n"), (status, output))
-        found = len(lines), lines[-1:]
-        self.expect("its lines of progress", (errors.count("\n"), [("4", "4")]), found)
+        self.expect("its lines of progress", (errors.count("\n"), [("4", "4")]), (len(lines), lines[-1:]))
         self.expect("a number in them", [], [line for line in lines if line not in (("2", "4"), ("4", "4"))])
         self.expect("the length of a resumed share", len(whole), self.size("share.cut"))
 
     def test_pieces(self) -> None:
         """A file has one slip for each piece, whichever the number of workers: seven trials, three a piece."""
         plan = plan_with(repeats=7)
-        row = f"{HEADER}1,1,1,1,7,28,0,0,0,28,7,7,0\n"
-        self.ends("run --piece 3 --workers 2 --checkpoint run.cut", row, plan)
+        self.ends("run --piece 3 --workers 2 --checkpoint run.cut", f"{HEADER}1,1,1,1,7,28,0,0,0,28,7,7,0\n", plan)
         self.ends("share 1/1 --piece 3 --workers 2 share.cut", "share 1 of 1: 7 of 7\n", plan)
         for name in ("run.cut", "share.cut"):
             self.expect(f"the length of {name}", 45 + len(plan) + 3 * SLIP + 1, self.size(name))
 
 
 class Lines(ProgramCases):
-    """Words of the command line, and standard streams."""
-
     def test_words(self) -> None:
         for line, text in TABLES["helps"]:
-            self.says(Ended(text), self.program.run(*line.split()), line)
-        self.says(Ended("", "unrecognized subcommand 'frob'", 2), self.program.run("frob"), "frob")
+            output, errors, status = self.program.run(*line.split())
+            self.expect(line, (True, "", 0), (text in output, errors, status))
+        output, errors, status = self.program.run("frob")
+        self.expect("frob", ("", True, 2), (output, "unrecognized subcommand 'frob'" in errors, status))
         for row, text, usage in TABLES["mistakes"]:
             output, errors, status = self.program.run(*row.split(), text=PLAN)
             shown = errors[errors.find("Usage: ") :].split("\n")[0]
@@ -380,11 +345,10 @@ class Lines(ProgramCases):
         """An output that takes some bytes and then fails."""
         for word, room in (("run", 0), ("run", 14), ("check", 7), ("--help", 21)):
             with self.file("output").open("wb") as output:
-                streams = dict(stdout=output, stderr=subprocess.PIPE, restore_signals=False)
-                command, limit = [self.path, word], partial(limit_files, room)
-                done = subprocess.run(command, input=PLAN, preexec_fn=limit, timeout=120, **streams)  # type: ignore
-            found = done.returncode, done.stderr.decode(), self.size("output")
-            self.expect(f"{word} with room for {room} bytes", (4, line_of(f"31 Write {room}"), room), found)
+                how: dict[str, Any] = dict(stdout=output, stderr=subprocess.PIPE, restore_signals=False, timeout=120)
+                done = subprocess.run([self.path, word], input=PLAN, preexec_fn=partial(limit_files, room), **how)
+            found = Ended("", done.stderr.decode(), done.returncode), self.size("output")
+            self.expect(f"{word} with room for {room} bytes", (refused(f"31 Write {room}"), room), found)
 
     def test_closed_streams(self) -> None:
         """Commands one of whose standard streams is closed where they begin: no file takes its place."""
@@ -397,32 +361,26 @@ class Lines(ProgramCases):
             self.expect(f"the bytes of {name}", whole, self.file(name).read_bytes())
         server = self.served(sessions=3)
         connect(self.file("socket")).close()
-        found = self.program.run("ask", "socket", text=PLAN, preexec_fn=partial(os.close, 1))
-        self.expect("ask with its output closed", Ended(), found)
-        found = self.program.run("ask", "socket", text=PLAN, preexec_fn=partial(os.close, 0))
-        self.expect("ask with its input closed", refused("1 NotJson", 3), found)
+        for number, wanted in ((1, Ended()), (0, refused("1 NotJson", 3))):
+            found = self.program.run("ask", "socket", text=PLAN, preexec_fn=partial(os.close, number))
+            self.expect(f"ask with stream {number} closed", wanted, found)
         self.expect("their server", Ended("accepted 2\n"), end_of(server))
 
 
 class Servers(ProgramCases):
-    """Servers and their clients."""
-
     def test_servers(self) -> None:
         """A study that a server keeps is there for the next one."""
         kept = self.file("kept")
         kept.mkdir()
         for line in ("accepted 2\n", "accepted 0\n"):
             server = self.served("--dir", kept)
-            found = self.asked_until(0)
-            ended = end_of(server)
-            self.expect("what a client is sent", Ended(TABLE), found)
-            self.expect("what its server prints", Ended(line), ended)
+            self.expect("what a client is sent", Ended(TABLE), self.asked_until(0))
+            self.expect("what its server prints", Ended(line), end_of(server))
             self.expect("the files of its folder", [NAME], os.listdir(kept))
             self.expect("the length of one slip's file", HEAD + SLIP + 1, (kept / NAME).stat().st_size)
         self.ends("ask none", refused("43 Read"))
 
     def test_two_clients(self) -> None:
-        """Two clients at once."""
         liar, server = plan_with(f=[0], liars=1, repeats=1), self.served(sessions=2)
         with connect(self.file("socket")) as first, connect(self.file("socket")) as second:
             for wire, text in ((first, PLAN), (second, liar)):
@@ -434,8 +392,7 @@ class Servers(ProgramCases):
         self.expect("a server of two clients", Ended("accepted 3\n"), end_of(server))
 
     def test_guests(self) -> None:
-        """A client that leaves without an answer; and one that holds the only connection, at a socket that is its owner's
-        alone, so that who comes later is refused."""
+        """A client that leaves without an answer, and one that holds the only connection, so that a later one is refused."""
         server = self.served()
         with connect(self.file("socket")) as wire:
             wire.sendall(reference.frame("R", PLAN))
@@ -501,9 +458,7 @@ class Scripts(ProgramCases):
         served = Child(command, cwd=self.folder, env=self.environment, stdout=pipe, stderr=pipe)
         connect(path).close()
         self.expect("what serve_on.sh serves", Ended(TABLE), self.program.run("ask", path, text=PLAN))
-        client = Program(ROOT / "examples/client.py").run(path, text=PLAN)
-        self.expect("client.py", (0, TABLE), (client.status, client.output))
+        self.expect("client.py", Ended(TABLE), Program(ROOT / "examples/client.py").run(path, text=PLAN))
         served.terminate()
         self.expect("serve_on.sh ended by a signal", Ended(), end_of(served))
-        is_refused = self.program.run("ask", path).status == 4
-        self.expect("its socket, and its server", (False, True), (path.exists(), is_refused))
+        self.expect("its socket, and its server", (False, 4), (path.exists(), self.program.run("ask", path).status))

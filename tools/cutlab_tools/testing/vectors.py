@@ -1,5 +1,4 @@
-"""tests/vectors [PROGRAM] [-k NAME]: gives the values of tests/data, which were computed elsewhere, to a built program.
-Each difference is printed; the last line says how many there are."""
+"""tests/vectors [PROGRAM] [-k NAME]: the values of tests/data, which were computed elsewhere, beside those of a built program."""
 import contextlib
 import json
 import re
@@ -10,42 +9,23 @@ from typing import Any
 from ..paths import DATA
 from ..plans import trials_in
 from ..program import Ended, end_of, replies_to, send
-from .cases import Cases
+from . import Cases
 
 # The numbers of the faults of a checkpoint that is refused.
 READINGS = {"NoStudy": 22, "OtherPlan": 23, "Damaged": 24}
-FaultFound = tuple[int, str]
 
 
 def vectors_of(name: str) -> Any:
-    """The rows of a file of values."""
     return json.loads((DATA / f"{name}.json").read_text())
 
 
-def fault_in(errors: str) -> FaultFound | str:
+def fault_in(errors: str) -> tuple[int, str] | str:
     """The number that a fault's line begins with, and the words after the fault's name."""
     found = re.fullmatch(r"cutlab: fault (\d+) \w+ ?(.*)\n", errors)
     return (int(found[1]), found[2]) if found else errors
 
 
-def reading_of(reading: Any) -> FaultFound | int:
-    """How a file is read, as a row says it: how many slips it has, or the fault."""
-    if isinstance(reading, list):
-        return len(reading)
-    name, _, place = reading.partition(" ")
-    return READINGS[name], place
-
-
-def pieces_in(held: bytes) -> list[tuple[int, int]]:
-    """The first trial of each slip of a whole file, and how many it has."""
-    at, size = 45 + int.from_bytes(held[9:13], "big"), 105 if held[8:9] == b"1" else 113
-    slips = [held[start : start + size] for start in range(at, len(held) - 1, size)]
-    return [(int.from_bytes(it[1:9], "big"), int.from_bytes(it[9:17], "big")) for it in slips]
-
-
 class Vectors(Cases):
-    """The files of tests/data, one after another."""
-
     def put(self, name: str, held: str) -> Path:
         """A file of these bytes, in hexadecimal digits."""
         self.file(name).write_bytes(bytes.fromhex(held))
@@ -56,17 +36,16 @@ class Vectors(Cases):
         output, errors, _ = self.program.run(*words, text=row.get("plan", "").encode())
         return output or re.sub(r"^cutlab: fault (.*)\n\Z", r"\1", errors)
 
-    def check_canonical(self, row: Any) -> None:
-        self.expect_run(Ended(row["canonical"] + "\n"), "canonical", text=row["plan"].encode())
+    def test_canonical(self) -> None:
+        for row in (*vectors_of("checkpoints"), *vectors_of("migrations")):
+            self.expect_run(Ended(row["canonical"] + "\n"), "canonical", text=row["plan"].encode())
 
     def test_plans(self) -> None:
-        """Each plan's table, by one worker and by three."""
         for row in vectors_of("plans"):
             for words in (["run"], ["run", "--workers", "3", "--piece", "2"]):
                 self.expect_run(Ended(row["table"]), *words, text=row["plan"].encode())
 
     def test_refusals(self) -> None:
-        """Whether each text is a plan, or by which fault it is refused."""
         for row in vectors_of("refusals"):
             _, errors, status = self.program.run("check", text=row["text"].encode())
             fault = row["fault"]
@@ -74,27 +53,26 @@ class Vectors(Cases):
             self.expect(f"check < {row['text']}", wanted, (fault_in(errors), status))
 
     def test_checkpoints(self) -> None:
-        """The canonical text of each plan, and how its files are read, by a join: how many slips one has, or the fault."""
+        """How the files of each plan are read, by a join: how many slips one has, or the fault."""
         for row in vectors_of("checkpoints"):
-            self.check_canonical(row)
             for held in ({"file": row["file"], "reading": row["slips"]}, *row["changed"]):
                 self.put("old", held["file"])
                 output, errors, _ = self.program.run("join", "new", "old", text=row["plan"].encode())
                 self.file("new").unlink(missing_ok=True)
                 joined = re.match(r"joined (\d+) into", output)
                 found = int(joined[1]) if joined else fault_in(errors)
-                self.expect(f"the file {held['file']}", reading_of(held["reading"]), found)
+                reading = held["reading"]
+                name, _, place = reading.partition(" ") if isinstance(reading, str) else ("", "", "")
+                wanted = (READINGS[name], place) if name else len(reading)
+                self.expect(f"the file {held['file']}", wanted, found)
 
     def test_statuses(self) -> None:
-        """What is printed of a checkpoint file: its status, or the fault of reading it."""
         for row in vectors_of("statuses"):
             path = self.put("study.cut", row["file"])
             self.expect(f"the status of {row['file']}", row["printed"], self.printed(row, "status", path.name))
 
     def test_migrations(self) -> None:
-        """The canonical text of each plan, what a migration of a file prints, and the file that it leaves."""
         for row in vectors_of("migrations"):
-            self.check_canonical(row)
             old, new = self.put("old", row["old"]), self.file("new")
             new.unlink(missing_ok=True)
             found = self.printed(row, "migrate", old, new), new.read_bytes().hex()
@@ -107,14 +85,16 @@ class Vectors(Cases):
             words = ["share", row["share"], path.name, "--piece", str(row["piece"]), "--workers", "2"]
             what = f"share {row['share']} in pieces of {row['piece']} from {row['before']}"
             self.expect(what, row["printed"], self.printed(row, *words))
-            pieces = pieces_in(path.read_bytes())
+            held = path.read_bytes()
+            at, size = 45 + int.from_bytes(held[9:13], "big"), 105 if held[8:9] == b"1" else 113
+            slips = [held[start : start + size] for start in range(at, len(held) - 1, size)]
+            pieces = [(int.from_bytes(it[1:9], "big"), int.from_bytes(it[9:17], "big")) for it in slips]
             if "slips" in row:
                 self.expect(f"the slips of {what}", [tuple(it) for it in row["slips"]], pieces)
             else:
                 self.expect(f"the trials of {what}", row["trials"], trials_in(pieces))
 
     def test_joins(self) -> None:
-        """What a join of files prints, and the file that it leaves, if it makes one."""
         for row in vectors_of("joins"):
             old = [self.put(f"{number}.cut", held) for number, held in enumerate(row["files"])]
             new = self.file("new.cut")
@@ -124,7 +104,6 @@ class Vectors(Cases):
                 self.expect(f"the file that joins {row['files']}", row["new"], new.read_bytes().hex())
 
     def test_sessions(self) -> None:
-        """What a server of that number of slots replies to a session."""
         for row in vectors_of("sessions"):
             server = self.program.serve(self.file("socket"), studies=row["slots"])
             replies = replies_to(self.file("socket"), bytes.fromhex(row["sent"])).hex()
@@ -150,7 +129,6 @@ class Vectors(Cases):
         return (fault_in(errors)[0] if errors else 0), len(output.encode())
 
     def test_answers(self) -> None:
-        """How a client ends that is sent such an answer, and how much of it it prints."""
         for row in vectors_of("answers"):
             found = self.asked(bytes.fromhex(row["answer"]))
             self.expect(f"an answer of {row['answer']}", (row["fault"], row["written"]), found)
