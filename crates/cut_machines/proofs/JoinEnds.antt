@@ -1,6 +1,6 @@
 -- How a join of checkpoints ends, by its parts.
 use Rattle.std.proofs.Common.{◌≡◌, ◌∙◌, ◌≤◌, inl, inr, ℕ, List, ◌∷◌, Option, Some, None, Result, Ok, Err}
-use Rattle.std.proofs.Common.{length, nat_lt, refl, sym, ap, subst, arith, length-append}
+use Rattle.std.proofs.Common.{Bool, length, nat_lt, refl, sym, ap, subst, arith, length-append}
 use Rattle.std.specs.Bool.{⊤}
 use Rattle.cut_plan.specs.Values.{Values}
 use Rattle.cut_disks.specs.Log.{DiskLog, is_known}
@@ -148,7 +148,7 @@ names_unread count None ended refused old new none unread = absurd unread
 names_unread count (Some place) (Ok done) refused old new none unread = absurd unread
 names_unread count (Some place) (Err fault) refused old new none unread =
     subst (λ (r : Option ℕ). NamesRefusedFile count (Err fault) r) (sym none)
-    (subst (λ (f : CliFault). NamesRefusedFile count (Err f) None) (sym unread.1.1) (names_of_files count unread.0))
+    (subst (λ (f : CliFault). NamesRefusedFile count (Err f) None) (sym unread.2) (names_of_files count unread.0))
 
 pub names_from : (plan : Option Place) (files : JoinFiles) (old new : WireLog) (ended : Result ⊤ CliFault)
     (refused : Option ℕ) → EndsJoinFrom plan files old new ended refused
