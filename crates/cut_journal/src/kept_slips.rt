@@ -1,7 +1,5 @@
-ghost use Rattle.std.specs.Prelude.{◌≡◌, ◌-◌, length, drop, IfOk, IfErr, OnOk, Err};
-ghost use Rattle.cut_plan.specs.Failing.{version_of};
-ghost use Rattle.cut_journal.specs.File.{slip_length};
-ghost use Rattle.cut_journal.specs.Reading.{reading, slips_in};
+ghost use Rattle.std.specs.Prelude.{◌≡◌, ◌<◌, length, IfOk, IfErr, OnOk, Err};
+ghost use Rattle.cut_journal.specs.Reading.{reading};
 ghost use Rattle.cut_journal.specs.Unread.{IsReadNext, IsUnreadable};
 ghost use Rattle.cut_journal.specs.inside.Steps.{IsOfPlan, IsStep};
 
