@@ -11,5 +11,6 @@ pub mod Places
 pub mod Readings
 pub mod SlipBytes
 pub mod Series
+pub mod Unread
 pub mod Appends
 pub mod Files

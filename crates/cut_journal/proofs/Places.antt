@@ -11,7 +11,7 @@ use Rattle.cut_journal.specs.declared.fault.JournalFault.{JournalFault}
 use Rattle.cut_journal.specs.declared.fault.JournalFault.TheVariants.{NoStudy, Damaged}
 use Rattle.cut_journal.specs.File.{open_gate, slip_length}
 use Rattle.cut_journal.specs.Reading.{body_in, is_slip, slip_in, then_slips, slips_in}
-use Rattle.cut_journal.specs.inside.Places.{gate_place, is_open, body_at, is_whole}
+use Rattle.cut_journal.specs.inside.Places.{gate_place, is_open, body_at, has_slip, is_whole, opens}
 use Rattle.cut_journal.proofs.Gates.{gate_next}
 
 pub ok_same : (xs ys : List Slip) → (let r : Result (List Slip) JournalFault = Ok xs in r) ≡ Ok ys → xs ≡ ys
@@ -25,12 +25,6 @@ damaged_not : (number : ℕ) → (let r : Result (List Slip) JournalFault = Err 
 damaged_not number same = cc
 
 -- ---- what is left of a file from the gate of a slip on
-
-abbrev opens : List ℕ → Bool
-opens rest = slice_index rest 0 == open_gate
-
-abbrev has_slip : Values → List ℕ → Bool
-has_slip v rest = nat_lt (slip_length (version_of v.failing)) (length rest) && is_slip v (body_in v rest)
 
 abbrev rest_at : Values → List ℕ → ℕ → List ℕ
 rest_at v bytes i = drop (gate_place v i) bytes
@@ -57,6 +51,33 @@ next_is v bytes i =
 chosen : Bool → Bool → Slip → ℕ → Result (List Slip) JournalFault → Result (List Slip) JournalFault
 chosen shown whole slip number after = cond (not shown) (Ok [])
     (cond (not whole) (Err (Damaged number)) (then_slips slip after))
+
+-- one step of the reading
+abbrev rest_after : Values → ℕ → ℕ → List ℕ → Result (List Slip) JournalFault
+rest_after v more number rest = slips_in v more (number + 1) (drop (slip_length (version_of v.failing)) rest)
+
+abbrev first_in : Values → List ℕ → Slip
+first_in v rest = slip_in (version_of v.failing) (body_in v rest)
+
+pub closed_in : (v : Values) (more number : ℕ) (rest : List ℕ) → opens rest ≡ false → slips_in v (suc more) number rest
+    ≡ Ok []
+unfolding chosen
+closed_in v more number rest shut =
+    ap (λ (b : Bool). chosen b (has_slip v rest) (first_in v rest) number (rest_after v more number rest)) shut
+
+pub damaged_in : (v : Values) (more number : ℕ) (rest : List ℕ) → opens rest ≡ true → has_slip v rest ≡ false
+    → slips_in v (suc more) number rest ≡ Err (Damaged number)
+unfolding chosen
+damaged_in v more number rest shown broken =
+    ap (λ (b : Bool). chosen b (has_slip v rest) (first_in v rest) number (rest_after v more number rest)) shown
+    ∙ ap (λ (b : Bool). chosen true b (first_in v rest) number (rest_after v more number rest)) broken
+
+pub whole_in : (v : Values) (more number : ℕ) (rest : List ℕ) → opens rest ≡ true → has_slip v rest ≡ true
+    → slips_in v (suc more) number rest ≡ then_slips (first_in v rest) (rest_after v more number rest)
+unfolding chosen
+whole_in v more number rest shown whole =
+    ap (λ (b : Bool). chosen b (has_slip v rest) (first_in v rest) number (rest_after v more number rest)) shown
+    ∙ ap (λ (b : Bool). chosen true b (first_in v rest) number (rest_after v more number rest)) whole
 
 abbrev slip_at : Values → List ℕ → ℕ → Slip
 slip_at v bytes i = slip_in (version_of v.failing) (body_at v bytes i)

@@ -3,7 +3,9 @@ use Rattle.std.proofs.Common.{◌≡◌, ◌∙◌, ◌≤◌, ◌<◌, ◌+◌,
 use Rattle.std.proofs.Common.{false, not, cond, List, [], ◌∷◌, Result, Ok, Err, length, take, drop, get_or, slice_range}
 use Rattle.std.proofs.Common.{slice_index, nat_le, refl, sym, ap, subst, arith, zero-add}
 use Rattle.std.specs.Prelude.{bytes_eq, Option, Some, None, IfErr}
+use Rattle.std.specs.Int.{w32, from_be_bytes}
 use Rattle.std.proofs.lemmas.Bool.{cases_lt}
+use Rattle.std.proofs.lemmas.Bool.Decides.{nat_tests}
 use Rattle.std.proofs.lemmas.List.{length-take}
 use Rattle.std.proofs.lemmas.List.FromFn.{map-range_with_len_more}
 use Rattle.sha2.specs.Sha256.{sha256}
@@ -324,26 +326,36 @@ pub letters_said : (v : Values) (bytes prefix into : List ℕ) (n : ℕ) (has : 
 letters_said v bytes prefix into n has size read same reported = sym
     (reported ∙ magic_alike v bytes into (prefix_alike v bytes prefix into n size read same))
 
--- whether a header can be there, by its four tests
-pub header_test : (bytes : List ℕ) (a b c d : Bool) → a ≡ nat_le 13 (length bytes) → b
-    ≡ is_magic (slice_range bytes 1 9) → c ≡ nat_le (text_length bytes) 65536
-    → d ≡ nat_le (text_length bytes + 46) (length bytes) → can_have_header bytes ≡ (((a && b) && c) && d)
-unfolding can_have_header
-header_test bytes a b c d p q r s = sym (rw (p, q, r, s) refl)
-
--- the length in a header, where one can be there, by the same tests
-pub text_shown : (bytes : List ℕ) (a b c d : Bool) (found : Option ℕ) → a ≡ nat_le 13 (length bytes) → b
-    ≡ is_magic (slice_range bytes 1 9) → c ≡ nat_le (text_length bytes) 65536
-    → d ≡ nat_le (text_length bytes + 46) (length bytes) → found
-    ≡ cond (((a && b) && c) && d) (Some (text_length bytes)) None → found
+-- a file that is too short for a header
+pub text_short : (bytes : List ℕ) (found : Option ℕ) → length bytes < 13 → found ≡ None → found
     ≡ cond (can_have_header bytes) (Some (text_length bytes)) None
-text_shown bytes a b c d found p q r s is = grind (arith, header_test)
+unfolding can_have_header
+text_short bytes found short none =
+    grind (arith, nat_tests)
+
+-- the length in a header, by its letters and digits and how many bytes there are
+pub text_found : (bytes letters digits : List ℕ) (size : ℕ) (found : Option ℕ) → 13 ≤ length bytes → letters
+    ≡ slice_range bytes 1 9 → digits ≡ slice_range bytes 9 13 → size ≡ length bytes → found
+    ≡ cond ((is_magic letters && nat_le (from_be_bytes w32 digits) 65536)
+    && nat_le (from_be_bytes w32 digits + 46) size) (Some (from_be_bytes w32 digits)) None → found
+    ≡ cond (can_have_header bytes) (Some (text_length bytes)) None
+unfolding can_have_header
+text_found bytes letters digits size found long first second many is =
+    grind (arith, nat_tests)
 
 -- what the length in a header says of the header
 pub text_none : (bytes : List ℕ) (found : Option ℕ) → found
     ≡ cond (can_have_header bytes) (Some (text_length bytes)) None → found ≡ None → has_header bytes ≡ false
 unfolding has_header
 text_none bytes found reported none = grind arith
+
+-- a header of that length is whole where its digest is right
+pub header_judged : (bytes : List ℕ) (found : Option ℕ) (n : ℕ) (has : Bool) → found
+    ≡ cond (can_have_header bytes) (Some (text_length bytes)) None → found ≡ Some n → has
+    ≡ bytes_eq (sha256 (slice_range bytes 1 (n + 13))) (slice_range bytes (n + 13) (n + 45)) → has ≡ has_header bytes
+unfolding has_header
+header_judged bytes found n has reported some is =
+    grind arith
 
 pub digest_test : (old mid : DiskState) (n : ℕ) (has : Bool) → mid ≡ old → can_have_header old.bytes ≡ true → n
     ≡ text_length old.bytes + 12

@@ -1,5 +1,6 @@
 pub mod File
 pub mod Reading
+pub mod Unread
 pub mod Journal
 pub mod Opening
 pub mod FaultCode

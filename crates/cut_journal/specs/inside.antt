@@ -3,3 +3,4 @@ pub mod File
 pub mod Opening
 pub mod Places
 pub mod Steps
+pub mod UnreadInside

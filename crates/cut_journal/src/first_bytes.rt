@@ -1,9 +1,11 @@
 //! What the first bytes of a file say, of whichever plan it is.
 
-ghost use Rattle.std.specs.Prelude.{◌≡◌, ◌+◌, ◌≤◌, false, length, slice_range, IfSome, IfNone};
-ghost use Rattle.cut_journal.specs.Reading.{has_header, is_study, text_length};
+ghost use Rattle.std.specs.Prelude.{◌≡◌, ◌+◌, ◌≤◌, false, length, slice_range, IfSome, IfNone, if◌then◌else◌};
+ghost use Rattle.std.specs.Prelude.{Some, None};
+ghost use Rattle.cut_journal.specs.Reading.{can_have_header, has_header, is_study, text_length};
 
-use crate::format::OPEN_GATE;
+use crate::format::{OPEN_GATE, digest_of};
+use crate::layout;
 
 /// Whether bytes hold a study, of whichever plan.
 pub fn is_study(bytes: &[u8]) -> bool
@@ -27,6 +29,38 @@ pub fn header_text(bytes: &[u8]) -> Option<&[u8]>
         return None;
     }
     Some(&bytes[13..length + 13])
+}
+
+/// Whether bytes begin with a whole header, of whichever plan, and have the gate of a first slip.
+#[tactic(auto, using(crate::proofs::Readings::header_judged, crate::proofs::Readings::text_none))]
+pub(crate) fn has_header(bytes: &[u8]) -> bool
+    ensures { result ≡ has_header bytes.now }
+{
+    match whole_length(bytes) {
+        Some(text) => {
+            digest_of(&bytes[1..text + 13]).as_slice() == &bytes[text + 13..text + 45]
+        }
+        None => false,
+    }
+}
+
+/// The length of the text in a header, if the header can be whole.
+#[tactic(auto, using(crate::proofs::Readings::text_found, crate::proofs::Readings::text_short))]
+fn whole_length(bytes: &[u8]) -> Option<usize>
+    ensures value { result ≡ (if can_have_header bytes.now then Some (text_length bytes.now) else None) }
+    ensures room { IfSome result (λ text. text + 46 ≤ length bytes.now) }
+{
+    if bytes.len() < 13 {
+        return None;
+    }
+    let mut letters = [0; 8];
+    letters.copy_from_slice(&bytes[1..9]);
+    let mut digits = [0; 4];
+    digits.copy_from_slice(&bytes[9..13]);
+    match layout::text_length(letters, digits, bytes.len() as u64) {
+        Some(text) => Some(text as usize),
+        None => None,
+    }
 }
 
 /// The length that a header gives of the text of its plan.

@@ -158,7 +158,7 @@ impl FileHeader {
 
     /// Whether what a file begins with says the text of its plan.
     pub fn says_plan(&self, prefix: &[u8]) -> bool
-        requires { length prefix.now ≡ length (canonical_text self.now) + 45 }
+        requires { length (canonical_text self.now) + 45 ≤ length prefix.now }
         ensures { result ≡ says_plan self.now prefix.now }
     {
         let text = self.text();

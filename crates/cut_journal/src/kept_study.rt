@@ -14,10 +14,9 @@ ghost use Rattle.cut_journal.specs.inside.Places.{gate_place};
 use crate::JournalFault;
 use crate::first_look::look_first;
 use crate::format::{FileHeader, digest_of};
-use crate::layout::is_magic;
+use crate::layout;
 use crate::slips::{BegunFile, Slips, read_slips};
 use cut_disks::{Disk, DiskFault};
-use cut_plan::LONGEST_TEXT;
 use std::alloc::Global;
 
 /// The slips of a study that a disk holds, and why there are none.
@@ -140,18 +139,7 @@ fn text_length<D: Disk>(disk: &mut D, size: u64) -> Result<Option<u32>, DiskFaul
     disk.read(1, &mut magic)?;
     let mut digits = [0; 4];
     disk.read(9, &mut digits)?;
-    let text = u32::from_be_bytes(digits);
-    let is_ours = is_magic(magic);
-    if !is_ours {
-        return Ok(None);
-    }
-    if text as usize > LONGEST_TEXT {
-        return Ok(None);
-    }
-    if size < u64::from(text) + 46 {
-        return Ok(None);
-    }
-    Ok(Some(text))
+    Ok(layout::text_length(magic, digits, size))
 }
 
 /// Whether the digest of a header that fills these bytes stands after it.

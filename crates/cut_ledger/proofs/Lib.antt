@@ -7,6 +7,7 @@ pub mod CellLemmas
 pub mod AddLemmas
 pub mod SlipLemmas
 pub mod RefusalLemmas
+pub mod TallyLemmas
 pub mod TrueSlips
 pub mod TrueSums
 pub mod GapPieces

@@ -7,6 +7,7 @@ use Rattle.cut_lists.proofs.Intervals.{within_is}
 use Rattle.cut_lists.proofs.Ranges.{list_any_agree}
 use Rattle.cut_outcome.specs.Outcome.{cell_at}
 use Rattle.range_set.specs.Held as held
+use Rattle.cut_ledger.specs.inside.Kept.{HoldsExactly}
 use Rattle.cut_ledger.proofs.Words.{AreGood, AreGoodUpTo, AreOver, ArePossible, IsAdded, IsAtMost, IsFirstBad}
 use Rattle.cut_ledger.proofs.Words.{IsGood, IsTrue, Piece, Slip, Totals, Values, contents_in, is_in, is_in_base}
 use Rattle.cut_ledger.proofs.Words.{is_piece}
@@ -17,21 +18,20 @@ use Rattle.cut_ledger.proofs.AddLemmas.{Adding, added_is, slip_kept, in_base_mor
 
 -- ---- one slip
 
-pub apart_is : (v : Values) (earlier : List Slip) (trials : held.Held) (sums : List Totals) (p : Piece)
-    → AreOver v earlier trials sums → list_any (is_in_base earlier) (trials_in p)
-    ≡ list_any (held.has trials) (trials_in p)
-apart_is v earlier trials sums p over =
+pub apart_is : (v : Values) (earlier : List Slip) (trials : held.Held) (p : Piece) → HoldsExactly trials earlier
+    → list_any (is_in_base earlier) (trials_in p) ≡ list_any (held.has trials) (trials_in p)
+apart_is v earlier trials p exactly =
     grind arith
 
-pub good_is : (v : Values) (earlier : List Slip) (trials : held.Held) (sums : List Totals) (s : Slip) (possible : Bool)
-    → AreOver v earlier trials sums → IsTrue (is_piece v s.piece) → list_any (held.has trials) (trials_in s.piece)
+pub good_is : (v : Values) (earlier : List Slip) (trials : held.Held) (s : Slip) (possible : Bool)
+    → HoldsExactly trials earlier → IsTrue (is_piece v s.piece) → list_any (held.has trials) (trials_in s.piece)
     ≡ false → (IsTrue possible ↔ ArePossible v (cell_at v s.piece.first) s.piece.count s.totals) → IsTrue possible
     ↔ IsGood v earlier s
-good_is v earlier trials sums s possible over piece apart reported = grind arith
+good_is v earlier trials s possible exactly piece apart reported = grind arith
 
-pub not_good : (v : Values) (earlier : List Slip) (trials : held.Held) (sums : List Totals) (s : Slip)
-    → AreOver v earlier trials sums → list_any (held.has trials) (trials_in s.piece) ≡ true → IsGood v earlier s → ⊥
-not_good v earlier trials sums s over meets good =
+pub not_good : (v : Values) (earlier : List Slip) (trials : held.Held) (s : Slip) → HoldsExactly trials earlier
+    → list_any (held.has trials) (trials_in s.piece) ≡ true → IsGood v earlier s → ⊥
+not_good v earlier trials s exactly meets good =
     grind arith
 
 -- of good slips none is the first that is not
@@ -50,7 +50,7 @@ over_more v slips old new olds news s over good few to =
     let adding : Adding v slips old new olds news s.piece s.totals = record {
       kept = over.kept;
       piece = good.piece;
-      apart = sym (apart_is v slips old olds s.piece over) ∙ good.apart;
+      apart = sym (apart_is v slips old s.piece over.exactly) ∙ good.apart;
       few = few;
       added = to;
     } in

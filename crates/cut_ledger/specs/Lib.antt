@@ -1,6 +1,7 @@
 pub mod Contents
 pub mod Gaps
 pub mod Slips
+pub mod Tally
 pub mod Refusals
 pub mod FaultCode
 pub mod Account

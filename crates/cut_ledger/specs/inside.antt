@@ -4,3 +4,4 @@ pub mod Kept
 pub mod LedgerInside
 pub mod Reached
 pub mod RunInside
+pub mod TallyInside

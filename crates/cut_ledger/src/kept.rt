@@ -1,12 +1,11 @@
 ghost use Rattle.std.specs.Prelude.{◌≡◌, ◌+◌, ◌*◌, ◌/◌, ◌<◌, ◌≤◌, ◌↔◌, List, [], length, map, IfOk, OnOk, OnErr};
 ghost use Rattle.std.specs.Prelude.{IsOk, IsTrue};
 ghost use Rattle.std.specs.List.{list_any};
-ghost use Rattle.cut_plan.specs.declared.limits.TheConstants.{MOST_NODES};
 ghost use Rattle.cut_plan.specs.Cells.{cells_of, trial_count};
-ghost use Rattle.cut_outcome.specs.Sum.{trials_in, IsAtMost};
+ghost use Rattle.cut_outcome.specs.Sum.{trials_in};
 ghost use Rattle.cut_ledger.specs.declared.slip.Slip as slips;
 ghost use Rattle.cut_ledger.specs.Gaps.{piece_at};
-ghost use Rattle.cut_ledger.specs.inside.Kept.{AreKept, AreOver, CanBeAdded, IsAdded, span_of};
+ghost use Rattle.cut_ledger.specs.inside.Kept.{AreKept, AreOver, CanBeAdded, HoldsExactly, IsAdded, span_of};
 ghost use Rattle.cut_ledger.specs.Slips.{IsGood};
 ghost use Rattle.range_set.specs.Held.{has, has_room};
 
@@ -39,7 +38,7 @@ impl Kept {
         requires { piece.first + piece.count ≤ length self.now.trials.held }
         ensures { result ≡ list_any (has self.now.trials) (trials_in piece) }
     {
-        self.trials.overlaps(span_of(piece))
+        overlaps(&self.trials, piece)
     }
 
     /// Adds a piece, none of whose trials is held, with its sums.
@@ -56,16 +55,24 @@ impl Kept {
         self.sums[cell] = self.sums[cell].plus(totals);
         Ok(())
     }
+}
 
-    /// Whether a slip is a good one after those whose trials are held. Its totals are few then.
-    pub fn is_good(&self, plan: &Plan, slip: &Slip) -> bool
-        requires { length self.now.trials.held ≡ trial_count plan.now }
-        ensures good { (earlier : List slips.Slip) → AreOver plan.now earlier self.now.trials self.now.sums.items
-            → (IsTrue result ↔ IsGood plan.now earlier slip.now) }
-        ensures few { IsTrue result → IsAtMost (MOST_NODES * slip.now.piece.count) slip.now.totals }
-    {
-        is_piece(plan, slip.piece) && !self.overlaps(slip.piece) && is_possible(plan, slip)
-    }
+/// Whether a slip is a good one after those whose trials, and no others, are held. Its piece can be added then.
+pub(crate) fn is_good(trials: &RangeSet, plan: &Plan, slip: &Slip) -> bool
+    requires { length trials.now.held ≡ trial_count plan.now }
+    ensures good { (earlier : List slips.Slip) → HoldsExactly trials.now earlier
+        → (IsTrue result ↔ IsGood plan.now earlier slip.now) }
+    ensures fits { IsTrue result → CanBeAdded plan.now trials.now slip.now.piece slip.now.totals }
+{
+    is_piece(plan, slip.piece) && !overlaps(trials, slip.piece) && is_possible(plan, slip)
+}
+
+/// Whether some trial of a piece is held.
+fn overlaps(trials: &RangeSet, piece: Piece) -> bool
+    requires { piece.first + piece.count ≤ length trials.now.held }
+    ensures { result ≡ list_any (has trials.now) (trials_in piece) }
+{
+    trials.overlaps(span_of(piece))
 }
 
 /// The numbers of a piece's trials.

@@ -11,7 +11,7 @@ ghost use Rattle.cut_ledger.specs.inside.Kept.{AreOver};
 ghost use Rattle.cut_ledger.specs.Refusals.{CanTake, refusal_of, fault_of_offer};
 ghost use Rattle.cut_ledger.specs.Slips.{AreGood, IsFaultOfSlips};
 
-use crate::kept::{Kept, pieces_at, span_of_cell};
+use crate::kept::{Kept, is_good, pieces_at, span_of_cell};
 use crate::{Base, Division, OfferFault, Slip, SlipsFault};
 use cut_outcome::{Piece, PieceResult, Totals};
 use cut_plan::Plan;
@@ -243,7 +243,7 @@ fn add_slips(kept: &mut Kept, plan: &Plan, slips: &[Slip]) -> Result<(), SlipsFa
     ensures err { IfErr result (λ e. IsFaultOfSlips plan.now slips.now e) }
 {
     for (i, slip) in slips.iter().enumerate() {
-        if !kept.is_good(plan, slip) {
+        if !is_good(&kept.trials, plan, slip) {
             return Err(SlipsFault::BadSlip(i as u64 + 1));
         }
         kept.add(plan, slip.piece, slip.totals)?;

@@ -18,6 +18,7 @@ mod possible;
 mod run;
 mod slip;
 mod slips_fault;
+mod tally;
 
 pub use base::Base;
 pub use bytes::Bytes;
@@ -28,3 +29,4 @@ pub use offer_fault::OfferFault;
 pub use run::Run;
 pub use slip::{Slip, slip_of};
 pub use slips_fault::SlipsFault;
+pub use tally::SlipTally;

@@ -1,27 +1,28 @@
--- How many trials slips hold, and how many cells of a ledger are done.
-use Rattle.std.proofs.Common.{◌≡◌, ◌∙◌, ◌+◌, ◌*◌, ◌<◌, ◌≤◌, ◌^◌, ◌||◌, ℕ, false, cond}
-use Rattle.std.proofs.Common.{List, [], ◌∷◌, length, take, get_or, refl, sym, ap, arith, zero-add}
-use Rattle.std.specs.Prelude.{IsTrue}
+-- How many trials slips hold, how many cells of a tally are done, and the status over slips.
+use Rattle.std.proofs.Common.{◌≡◌, ◌∙◌, ◌+◌, ◌<◌, ◌≤◌, ◌^◌, ◌||◌, ℕ, Bool, cond}
+use Rattle.std.proofs.Common.{List, [], ◌∷◌, length, take, get_or, sym, ap, subst, arith, zero-add, refl}
+use Rattle.std.specs.Prelude.{IsTrue, Option, Some, None}
 use Rattle.std.specs.List.{range_with_len, count_by, list_all}
 use Rattle.std.proofs.Math.Bool.{or-false}
 use Rattle.std.proofs.lemmas.Bool.{or_right, false_from_ne_true}
 use Rattle.std.proofs.lemmas.List.{take_more}
 use Rattle.std.proofs.lemmas.List.Folds.{list_any-append}
-use Rattle.std.proofs.lemmas.List.FromFn.{length-range_with_len, get_or-map-range_with_len}
+use Rattle.std.proofs.lemmas.List.FromFn.{length-range_with_len}
 use Rattle.std.proofs.lemmas.List.Sums.{count_by-le-length, sum_by-cons, sum_by_push}
 use Rattle.cut_lists.proofs.Additions.{PassesPart, count_of_more}
-use Rattle.cut_lists.proofs.Intervals.{list_all_agree, within_is}
-use Rattle.cut_lists.proofs.Ranges.{count_by_agree, none_passing, range_with_len_more}
+use Rattle.cut_lists.proofs.Intervals.{within_is}
+use Rattle.cut_lists.proofs.Ranges.{none_passing, range_with_len_more}
+use Rattle.cut_plan.specs.Canonical.{canonical_text}
 use Rattle.cut_plan.specs.Cells.{cells_of, trial_count}
 use Rattle.cut_plan.specs.Plan.{IsPlan}
 use Rattle.cut_plan.specs.Values.{Values}
 use Rattle.cut_outcome.specs.declared.piece.Piece.{Piece}
 use Rattle.cut_outcome.specs.Sum.{is_piece, trials_of_cell}
 use Rattle.cut_ledger.specs.declared.slip.Slip.{Slip}
-use Rattle.cut_ledger.specs.Contents.{Contents, all_trials, cell_done, has, is_in, is_in_base, over_base}
-use Rattle.cut_ledger.specs.Slips.{AreGood, IsGood}
-use Rattle.cut_ledger.proofs.LawBytes.{in_plan}
-use Rattle.cut_status.specs.Status.{done_cells, held_trials}
+use Rattle.cut_ledger.specs.Contents.{all_trials, is_in, is_in_base}
+use Rattle.cut_ledger.specs.Slips.{AreGood, IsFirstBad, IsGood}
+use Rattle.cut_ledger.specs.Tally.{Tally, HasAdded, HasJudged, IsTallyOver, has_cell, has_trial}
+use Rattle.cut_status.specs.Status.{StatusValue, held_trials, status_over}
 use Rattle.cut_status.specs.inside.Counts.{done_among}
 use Rattle.cut_ledger.proofs.CellLemmas.{in_piece}
 
@@ -44,9 +45,6 @@ in_more ss i d t within =
 piece_ends : (v : Values) (p : Piece) → IsTrue (is_piece v p) → p.first + p.count ≤ trial_count v
 piece_ends v p piece =
     grind arith
-
-has_in : (v : Values) (ss : List Slip) (t : ℕ) → t < trial_count v → has (over_base v ss) t ≡ is_in_base ss t
-has_in v ss t low = get_or-map-range_with_len (is_in_base ss) 0 (trial_count v) t t false low (omega arith)
 
 -- the trials of a good slip are in it, and in none before it
 part_more : (v : Values) (ss : List Slip) (i : ℕ) (d : Slip) → i < length ss → IsGood v (take i ss) (get_or ss i d)
@@ -83,18 +81,45 @@ held_few v ss plan =
 
 -- ---- one cell more
 
-pub done_more : (l : Contents) (n : ℕ) → done_among l (n + 1) ≡ done_among l n + cond (cell_done l n) 1 0
-done_more l n =
+pub done_more : (a : Tally) (n : ℕ) → done_among a (n + 1) ≡ done_among a n + cond (has_cell a n) 1 0
+done_more a n =
     grind (arith, range_with_len_more 0 n n (zero-add n), sum_by_push)
 
-pub done_few : (l : Contents) (n : ℕ) → done_among l n ≤ n
-done_few l n = omega (arith, count_by-le-length (cell_done l) (range_with_len 0 n), length-range_with_len 0 n)
+pub done_few : (a : Tally) (n : ℕ) → done_among a n ≤ n
+done_few a n = omega (arith, count_by-le-length (has_cell a) (range_with_len 0 n), length-range_with_len 0 n)
 
--- a cell of the ledger over slips is done where each of its trials is in some slip's piece
-pub done_over : (v : Values) (ss : List Slip) → done_among (over_base v ss) (length (cells_of v)) ≡ done_cells v ss
-done_over v ss =
-    let n : ℕ = length (cells_of v) in
-    count_by_agree (cell_done (over_base v ss)) (λ c. list_all (is_in_base ss) (trials_of_cell v c)) 0 n (record {
-      same = λ c low high. list_all_agree (has (over_base v ss)) (is_in_base ss) (c * v.repeats) v.repeats
-          (λ t from to. has_in v ss t (in_plan c n v.repeats t (omega (arith, high)) to));
-    })
+-- ---- the status over slips
+
+-- by a test of the trials that are held
+abbrev pub status_by : Values → (ℕ → Bool) → ℕ → StatusValue
+status_by v test n = record {
+  held = count_by test (all_trials v);
+  trials = trial_count v;
+  done = count_by (λ c. list_all test (trials_of_cell v c)) (range_with_len 0 (length (cells_of v)));
+  cells = length (cells_of v);
+  slips = n;
+  text = canonical_text v;
+}
+
+none_refused : (r : Option ℕ) (a : Tally) (ss : List Slip) → r ≡ None → HasJudged r a ss → IsTallyOver a ss
+none_refused None a ss none is = is
+none_refused (Some n) a ss none is = absurd (cc)
+
+pub tally_status : (a : Tally) (ss : List Slip) → a.refused ≡ None → HasAdded a ss → AreGood a.plan ss
+    × (status_by a.plan (has_trial a) a.slips ≡ status_over a.plan ss)
+tally_status a ss none added =
+    let over : IsTallyOver a ss = none_refused a.refused a ss none added in (
+      over.good,
+      ap (λ (test : ℕ → Bool). status_by a.plan test a.slips) (λ i t. over.exactly t i)
+          ∙ ap (status_by a.plan (is_in_base ss)) over.counted,
+    )
+
+some_refused : (r : Option ℕ) (n : ℕ) (a : Tally) (ss : List Slip) → r ≡ Some n → HasJudged r a ss
+    → IsFirstBad a.plan ss n
+some_refused None n a ss some is = absurd (cc)
+some_refused (Some k) n a ss some is =
+    let same : k ≡ n = cc in subst (λ (i : ℕ). IsFirstBad a.plan ss i) same is
+
+pub tally_refused : (a : Tally) (ss : List Slip) (n : ℕ) → a.refused ≡ Some n → HasAdded a ss
+    → IsFirstBad a.plan ss n
+tally_refused a ss n some added = some_refused a.refused n a ss some added

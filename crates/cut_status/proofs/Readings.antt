@@ -1,9 +1,9 @@
 -- How bytes are read for each plan, and what a status says of that.
-use Rattle.std.proofs.Common.{◌≡◌, ◌∙◌, ◌+◌, ◌==◌, ◌&&◌, inl, inr, ℕ, zero, suc, Bool, true, false, not, cond}
-use Rattle.std.proofs.Common.{List, [], Result, Ok, Err, length, drop, slice_range, slice_index, nat_lt, refl}
-use Rattle.std.proofs.Common.{sym, ap, subst}
+use Rattle.std.proofs.Common.{◌≡◌, ◌∙◌, ◌+◌, ◌++◌, ◌==◌, ◌&&◌, inl, inr, ℕ, zero, suc, Bool, true, false, not, cond}
+use Rattle.std.proofs.Common.{List, [], ◌∷◌, Result, Ok, Err, length, drop, slice_range, slice_index, nat_lt, refl}
+use Rattle.std.proofs.Common.{sym, ap, subst, append_assoc, append-nil}
 use Rattle.std.specs.Bool.{⊤}
-use Rattle.std.specs.Prelude.{IfOk, OnOk}
+use Rattle.std.specs.Prelude.{IfOk, IfErr, Some, None}
 use Rattle.std.proofs.lemmas.Bool.{cases_Bool}
 use Rattle.cut_plan.specs.Canonical.{canonical_text}
 use Rattle.cut_plan.specs.Plan.{IsPlan}
@@ -11,19 +11,20 @@ use Rattle.cut_plan.specs.Values.{Values}
 use Rattle.cut_plan.specs.Failing.{version_of}
 use Rattle.cut_ledger.specs.declared.slip.Slip.{Slip}
 use Rattle.cut_ledger.specs.Slips.{AreGood}
+use Rattle.cut_ledger.specs.Tally.{Tally, HasAdded}
 use Rattle.cut_journal.specs.declared.fault.JournalFault.{JournalFault}
 use Rattle.cut_journal.specs.declared.fault.JournalFault.TheVariants as journal
 use Rattle.cut_journal.specs.File.{open_gate, slip_length}
-use Rattle.cut_journal.specs.Opening.{IsReopenFault}
 use Rattle.cut_journal.specs.Reading.{is_study, text_length, has_header, says_plan, has_magic, is_slip, slip_in}
 use Rattle.cut_journal.specs.Reading.{body_in}
 use Rattle.cut_journal.specs.Reading.{then_slips, slips_in, slips_reading, reading}
+use Rattle.cut_journal.specs.Unread.{Unread, IsReadNext, IsUnreadable}
 use Rattle.cut_status.specs.declared.fault.StatusFault.{StatusFault}
 use Rattle.cut_status.specs.declared.fault.StatusFault.TheVariants.{Memory, NoStudy, Damaged, BadSlip}
 use Rattle.cut_status.specs.Status.{StatusValue, status_over}
-use Rattle.cut_status.specs.Study.{IsStudyOf, IsStatusOf, IsOfNone, IsDamaged, IsStatusFault}
-use Rattle.cut_status.specs.inside.Study.{IsOfNoPlan}
-use Rattle.cut_status.specs.inside.Study.{fault_of}
+use Rattle.cut_status.specs.Study.{IsStatusOf, IsOfNone, IsDamaged, IsStatusFault}
+use Rattle.cut_status.specs.inside.Study.{after_slips, fault_of, IsFaultOver, IsOfNoPlan, IsTallyIn}
+use Rattle.cut_status.specs.inside.Study.{IsUnderWay}
 use Rattle.cut_status.proofs.Headers.{ReadsBack, says_text, same_plan}
 
 -- ---- the slips after a header
@@ -137,26 +138,98 @@ damaged back v bytes zero some plan says is = (
 damaged back v bytes (suc n) some plan says is = (v, (plan, is))
 
 -- the fault of a journal of the plan that the header says
-pub reopened : ReadsBack → (v : Values) (bytes : List ℕ) (e : JournalFault) → is_study bytes ≡ true → IsPlan v
-    → says_plan v bytes ≡ true → IsReopenFault v bytes e → IsStatusFault bytes (fault_of e)
-reopened back v bytes journal.Memory some plan says is = tt
-reopened back v bytes journal.Disk some plan says is = tt
-reopened back v bytes journal.NoStudy some plan says is = absurd (subst IsOfSlips is (own_reading v bytes some says))
-reopened back v bytes journal.OtherPlan some plan says is = absurd (subst IsOfSlips is (own_reading v bytes some says))
-reopened back v bytes (journal.Damaged n) some plan says is = damaged back v bytes n some plan says is
-reopened back v bytes journal.Broken some plan says is = absurd is
-reopened back v bytes journal.Held some plan says is = absurd is
+pub unreadable : ReadsBack → (v : Values) (bytes : List ℕ) (e : JournalFault) → is_study bytes ≡ true → IsPlan v
+    → says_plan v bytes ≡ true → IsUnreadable v bytes e → IsStatusFault bytes (fault_of e)
+unreadable back v bytes journal.Memory some plan says is = tt
+unreadable back v bytes journal.Disk some plan says is = absurd (subst IsOfSlips is (own_reading v bytes some says))
+unreadable back v bytes journal.NoStudy some plan says is = absurd (subst IsOfSlips is (own_reading v bytes some says))
+unreadable back v bytes journal.OtherPlan some plan says is = absurd
+    (subst IsOfSlips is (own_reading v bytes some says))
+unreadable back v bytes (journal.Damaged n) some plan says is = damaged back v bytes n some plan says is
+unreadable back v bytes journal.Broken some plan says is = absurd (subst IsOfSlips is (own_reading v bytes some says))
+unreadable back v bytes journal.Held some plan says is = absurd (subst IsOfSlips is (own_reading v bytes some says))
 
--- ---- the status over slips
+-- ---- slips that are read and added one after another
 
-pub over_study : (r : Result StatusValue StatusFault) (bytes : List ℕ) (v : Values) (slips : List Slip)
-    → IsStudyOf bytes v slips → IfOk r (λ s. s ≡ status_over v slips) → OnOk r (AreGood v slips)
-    → IfOk r (IsStatusOf bytes)
-over_study (Ok s) bytes v slips study is good = record {
-  plan = v;
-  slips = slips;
-  study = study;
-  good = good;
-  is = is;
+after_none : (later : Result (List Slip) JournalFault) → later ≡ after_slips [] later
+after_none (Ok slips) = refl
+after_none (Err fault) = refl
+
+after_more : (before : List Slip) (slip : Slip) (later : Result (List Slip) JournalFault)
+    → after_slips before (then_slips slip later) ≡ after_slips (before ++ slip ∷ []) later
+after_more before slip (Ok slips) = ap (λ (l : List Slip). Ok l) (sym (append_assoc before (slip ∷ []) slips))
+after_more before slip (Err fault) = refl
+
+pub under_way : (v : Values) (bytes : List ℕ) (tally : Tally) (unread : Unread) → unread.slips ≡ reading v bytes
+    → tally.plan ≡ v → HasAdded tally [] → IsUnderWay v bytes tally unread
+under_way v bytes tally unread is plan added = record {
+  plan = plan;
+  before = [];
+  added = added;
+  read = sym is ∙ after_none unread.slips;
 }
-over_study (Err e) bytes v slips study is good = tt
+
+pub further : (v : Values) (bytes : List ℕ) (tally new : Tally) (unread later : Unread) (slip : Slip)
+    → IsUnderWay v bytes tally unread → IsReadNext (Ok (Some slip)) unread later → new.plan ≡ tally.plan
+    → ((before : List Slip) → HasAdded tally before → HasAdded new (before ++ slip ∷ []))
+    → IsUnderWay v bytes new later
+further v bytes tally new unread later slip is next plan added = record {
+  plan = plan ∙ is.plan;
+  before = is.before ++ slip ∷ [];
+  added = added is.before is.added;
+  read = is.read ∙ ap (after_slips is.before) next.0 ∙ after_more is.before slip later.slips;
+}
+
+pub all_read : (v : Values) (bytes : List ℕ) (tally : Tally) (unread later : Unread) → IsUnderWay v bytes tally unread
+    → IsReadNext (Ok None) unread later → IsTallyIn v bytes tally
+all_read v bytes tally unread later is next = record {
+  plan = is.plan;
+  slips = is.before;
+  read = is.read ∙ ap (after_slips is.before) next.0 ∙ ap (λ (l : List Slip). Ok l) (append-nil is.before);
+  added = is.added;
+}
+
+unreadable_by : (v : Values) (bytes : List ℕ) (fault : JournalFault) → reading v bytes ≡ Err fault
+    → IsUnreadable v bytes fault
+unreadable_by v bytes journal.Memory is = tt
+unreadable_by v bytes journal.Disk is = is
+unreadable_by v bytes journal.NoStudy is = is
+unreadable_by v bytes journal.OtherPlan is = is
+unreadable_by v bytes (journal.Damaged n) is = is
+unreadable_by v bytes journal.Broken is = is
+unreadable_by v bytes journal.Held is = is
+
+pub not_read : (v : Values) (bytes : List ℕ) (tally : Tally) (unread later : Unread) (fault : JournalFault)
+    → IsUnderWay v bytes tally unread → IsReadNext (Err fault) unread later → IsUnreadable v bytes fault
+not_read v bytes tally unread later fault is next =
+    unreadable_by v bytes fault (is.read ∙ ap (after_slips is.before) next.0)
+
+-- ---- the status of a tally
+
+pub tally_study : (r : Result StatusValue StatusFault) (bytes : List ℕ) (v : Values) (tally : Tally) → IsPlan v
+    → IsTallyIn v bytes tally → IfOk r (λ s. (ss : List Slip) → HasAdded tally ss → AreGood tally.plan ss
+    × (s ≡ status_over tally.plan ss)) → IfOk r (IsStatusOf bytes)
+tally_study (Ok s) bytes v tally plan in' ok =
+    let over = rw in'.plan at (ok in'.slips in'.added) in
+    record {
+      plan = v;
+      slips = in'.slips;
+      study = record { plan = plan; read = in'.read };
+      good = over.0;
+      is = over.1;
+    }
+tally_study (Err e) bytes v tally plan in' ok = tt
+
+pub tally_fault : (r : Result StatusValue StatusFault) (bytes : List ℕ) (v : Values) (tally : Tally) → IsPlan v
+    → IsTallyIn v bytes tally → IfErr r (λ e. (ss : List Slip) → HasAdded tally ss
+    → IsFaultOver tally.plan ss e) → IfErr r (IsStatusFault bytes)
+tally_fault (Ok s) bytes v tally plan in' err = tt
+tally_fault (Err Memory) bytes v tally plan in' err = tt
+tally_fault (Err NoStudy) bytes v tally plan in' err = absurd (err in'.slips in'.added)
+tally_fault (Err (Damaged n)) bytes v tally plan in' err = absurd (err in'.slips in'.added)
+tally_fault (Err (BadSlip n)) bytes v tally plan in' err = record {
+  plan = v;
+  slips = in'.slips;
+  study = record { plan = plan; read = in'.read };
+  bad = rw in'.plan at (err in'.slips in'.added);
+}

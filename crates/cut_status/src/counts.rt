@@ -5,7 +5,7 @@ ghost use Rattle.cut_ledger.specs.Slips.{AreGood};
 ghost use Rattle.cut_status.specs.Status.{held_trials};
 ghost use Rattle.cut_status.specs.inside.Counts.{done_among};
 
-use cut_ledger::{Ledger, Slip};
+use cut_ledger::{Slip, SlipTally};
 use cut_plan::Plan;
 
 /// How many trials of a plan slips hold, none of which is in two of them.
@@ -21,13 +21,13 @@ pub fn trials_held(plan: &Plan, slips: &[Slip]) -> u32
     held
 }
 
-/// How many cells of a ledger's plan are done.
-pub(crate) fn cells_done(ledger: &Ledger) -> u32
-    ensures { result ≡ done_among ledger.now.contents (length (cells_of ledger.now.contents.plan)) }
+/// How many cells of a tally's plan are done.
+pub(crate) fn cells_done(tally: &SlipTally) -> u32
+    ensures { result ≡ done_among tally.now (length (cells_of tally.now.plan)) }
 {
     let mut done = 0;
-    for cell in 0..ledger.plan().cells() {
-        if ledger.cell_done(cell) {
+    for cell in 0..tally.plan().cells() {
+        if tally.cell_done(cell) {
             done += 1;
         }
     }

@@ -1,19 +1,20 @@
-ghost use Rattle.std.specs.Prelude.{◌≡◌, Ok, true, IfOk, IfErr};
+ghost use Rattle.std.specs.Prelude.{◌≡◌, true, IfOk, IfErr};
 ghost use Rattle.cut_plan.specs.Plan.{IsPlan};
-ghost use Rattle.cut_journal.specs.Reading.{is_study, reading, says_plan};
+ghost use Rattle.cut_journal.specs.Reading.{is_study, says_plan};
+ghost use Rattle.cut_journal.specs.Unread.{IsUnreadable};
 ghost use Rattle.cut_status.specs.Study.{IsStatusOf, IsStatusFault};
-ghost use Rattle.cut_status.specs.inside.Study.{fault_of};
+ghost use Rattle.cut_status.specs.inside.Study.{fault_of, IsTallyIn};
 
 use crate::header::header_plan;
 use crate::{Status, StatusFault};
-use cut_disks::MemoryDisk;
-use cut_journal::{Journal, JournalFault, is_study};
-use cut_ledger::Slip;
+use cut_journal::{JournalFault, KeptSlips, is_study};
+use cut_ledger::SlipTally;
 use cut_plan::{Plan, canonical_text_reads_back};
 use std::alloc::Global;
 
 /// What the bytes of a checkpoint file say of its study: the plan is the one whose canonical text stands in the
-/// header, and the slips are those that a journal of this plan reads.
+/// header, and the slips are those that a journal of this plan reads. Beside the bytes it takes memory for the plan and
+/// for the set of trials that are held.
 ///
 /// A fault is the one with which a journal of that plan would refuse the bytes, or else the first slip with which a
 /// ledger can't begin. Where a header says the text of no accepted plan, it is damaged.
@@ -25,34 +26,50 @@ pub fn status_of(alloc: Global, bytes: Vec<u8>) -> Result<Status, StatusFault>
         return Err(StatusFault::NoStudy);
     }
     let plan = header_plan(alloc, &bytes)?;
-    let slips = slips_in(alloc, bytes, &plan)?;
-    Status::over(alloc, plan, &slips)
+    let tally = tally_in(alloc, &bytes, plan)?;
+    Status::of(alloc, &tally)
 }
 
-/// The slips of the study of a plan.
-fn slips_in(alloc: Global, bytes: Vec<u8>, plan: &Plan) -> Result<Vec<Slip>, StatusFault>
-    requires study { is_study bytes.items ≡ true }
-    requires plan { IsPlan plan.now }
-    requires said { says_plan plan.now bytes.items ≡ true }
-    ensures read { IfOk result (λ slips. reading plan.now bytes.items ≡ Ok slips.items) }
-    ensures err { IfErr result (IsStatusFault bytes.items) }
+/// The tally of the slips of the study of the plan that its header says.
+fn tally_in(alloc: Global, bytes: &[u8], plan: Plan) -> Result<SlipTally, StatusFault>
+    requires study { is_study bytes.now ≡ true }
+    requires plan { IsPlan plan }
+    requires said { says_plan plan bytes.now ≡ true }
+    ensures read { IfOk result (IsTallyIn plan bytes.now) }
+    ensures err { IfErr result (IsStatusFault bytes.now) }
 {
     canonical_text_reads_back();
-    let disk = MemoryDisk::of(alloc, bytes)?;
-    match Journal::reopen(alloc, disk, plan) {
-        Ok((_, slips)) => Ok(slips),
-        Err((fault, _)) => Err(fault_of(fault)),
+    match tally_of(alloc, bytes, plan) {
+        Ok(tally) => Ok(tally),
+        Err(fault) => Err(fault_of(fault)),
     }
 }
 
-/// The fault of a journal over a disk in memory, which fails only where memory runs out. A journal of the plan that
-/// the header says has no other faults than the first four.
+/// The tally of all slips of the study of a plan. One that is damaged is reported also where it comes after a bad one.
+fn tally_of(alloc: Global, bytes: &[u8], plan: Plan) -> Result<SlipTally, JournalFault>
+    ensures read { IfOk result (IsTallyIn plan bytes.now) }
+    ensures err { IfErr result (IsUnreadable plan bytes.now) }
+{
+    let mut slips = KeptSlips::of(alloc, bytes, &plan)?;
+    let mut tally = match SlipTally::new(alloc, plan) {
+        Ok(tally) => tally,
+        Err(_) => return Err(JournalFault::Memory),
+    };
+    while let Some(slip) = slips.next()? {
+        match tally.add(&slip) {
+            Ok(()) => {}
+            Err(_) => return Err(JournalFault::Memory),
+        }
+    }
+    Ok(tally)
+}
+
+/// The fault of a journal, where the header says its plan: it has no others than the first two.
 fn fault_of(fault: JournalFault) -> StatusFault
     ensures { result ≡ fault_of fault }
 {
     match fault {
-        JournalFault::Memory | JournalFault::Disk => StatusFault::Memory,
-        JournalFault::NoStudy => StatusFault::NoStudy,
+        JournalFault::Memory => StatusFault::Memory,
         JournalFault::Damaged(number) => StatusFault::Damaged(number),
         _ => StatusFault::Damaged(0),
     }

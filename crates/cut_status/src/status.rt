@@ -1,12 +1,13 @@
-ghost use Rattle.std.specs.Prelude.{◌≡◌, IfOk, IfErr, OnOk};
+ghost use Rattle.std.specs.Prelude.{◌≡◌, List, IfOk, IfErr};
 ghost use Rattle.cut_ledger.specs.Slips.{AreGood};
+ghost use Rattle.cut_ledger.specs.Tally.{HasAdded};
+ghost use Rattle.cut_ledger.specs.declared.slip.Slip as slips;
 ghost use Rattle.cut_status.specs.Status.{status_over, status_text};
 ghost use Rattle.cut_status.specs.inside.Study.{IsFaultOver};
 
 use crate::StatusFault;
-use crate::counts::{cells_done, trials_held};
-use cut_ledger::{Ledger, Slip, SlipsFault};
-use cut_plan::Plan;
+use crate::counts::cells_done;
+use cut_ledger::SlipTally;
 use std::alloc::{AllocError, Global};
 use std::marker::Model;
 
@@ -37,26 +38,28 @@ impl Model for Status {
 }
 
 impl Status {
-    /// The status of a plan's study with these slips. It is refused by the number of the first slip with which no
-    /// ledger begins.
-    pub(crate) fn over(alloc: Global, plan: Plan, slips: &[Slip]) -> Result<Status, StatusFault>
-        ensures ok { IfOk result (λ status. status ≡ status_over plan slips.now) }
-        ensures good { OnOk result (AreGood plan slips.now) }
-        ensures err { IfErr result (IsFaultOver plan slips.now) }
+    /// The status of the study whose slips were added to a tally. It is refused by the number of the first slip that the
+    /// tally refused.
+    pub(crate) fn of(alloc: Global, tally: &SlipTally) -> Result<Status, StatusFault>
+        ensures ok { IfOk result (λ status. (slips : List slips.Slip) → HasAdded tally.now slips →
+            AreGood tally.now.plan slips × (status ≡ status_over tally.now.plan slips)) }
+        ensures err { IfErr result (λ fault. (slips : List slips.Slip) → HasAdded tally.now slips →
+            IsFaultOver tally.now.plan slips fault) }
     {
-        let text = plan.canonical(alloc)?;
-        let ledger = match Ledger::from_slips(alloc, plan, slips) {
-            Ok(ledger) => ledger,
-            Err(SlipsFault::BadSlip(number)) => return Err(StatusFault::BadSlip(number)),
-            Err(SlipsFault::Memory) => return Err(StatusFault::Memory),
+        if let Some(number) = tally.refused() {
+            return Err(StatusFault::BadSlip(number));
+        }
+        let plan = tally.plan();
+        let text = match plan.canonical(alloc) {
+            Ok(text) => text,
+            Err(_) => return Err(StatusFault::Memory),
         };
-        let plan = ledger.plan();
         Ok(Status {
-            held: trials_held(plan, slips),
+            held: tally.held(),
             trials: plan.trials(),
-            done: cells_done(&ledger),
+            done: cells_done(tally),
             cells: plan.cells(),
-            slips: slips.len() as u64,
+            slips: u64::from(tally.slips()),
             text,
         })
     }

@@ -14,8 +14,9 @@ use Rattle.cut_journal.specs.File.{open_gate, file_of}
 use Rattle.cut_journal.specs.Journal.{ReadsAs, ExtendsFile, kept_slips}
 use Rattle.cut_journal.specs.Opening.{IsNewStudy, IsReopenFault, IsReopened, IsRefused, IsMade, IsNotMade}
 use Rattle.cut_journal.specs.inside.File.{rest_of}
-use Rattle.cut_journal.specs.Reading.{is_study, has_header, says_plan, has_magic, slip_in, slips_reading, reading}
-use Rattle.cut_journal.specs.inside.Places.{body_at, is_open, is_whole}
+use Rattle.cut_journal.specs.Reading.{is_study, has_header, says_plan, has_magic, slip_in, body_in, slips_reading}
+use Rattle.cut_journal.specs.Reading.{reading}
+use Rattle.cut_journal.specs.inside.Places.{body_at, has_slip, is_open, is_whole, opens}
 
 -- a write and a sync: all is durable; or the write did nothing, or was begun
 abbrev pub WritesThrough : {E : Type 0} → Result ⊤ E → ℕ → List ℕ → DiskState → DiskState → Type 0
@@ -51,6 +52,14 @@ IsNext (Ok (Some slip)) v i bytes =
 IsNext (Err (Damaged number)) v i bytes =
     (number ≡ i + 1) × (is_open v bytes i ≡ true) × (is_whole v bytes i ≡ false)
 IsNext (Err fault) v i bytes = ⊤
+
+-- what the first slip of the bytes from a gate on is found to be: none after a closed gate, a whole one, or one that is
+-- damaged; it has this number
+abbrev pub IsStep : Result (Option Slip) JournalFault → Values → ℕ → List ℕ → Type 0
+IsStep (Ok None) v number rest = opens rest ≡ false
+IsStep (Ok (Some slip)) v number rest =
+    (opens rest ≡ true) × (has_slip v rest ≡ true) × (slip ≡ slip_in (version_of v.failing) (body_in v rest))
+IsStep (Err fault) v number rest = (opens rest ≡ true) × (has_slip v rest ≡ false) × (fault ≡ Damaged number)
 
 -- the faults of a step that reads slips
 abbrev pub IsSlipFault : JournalFault → Type 0

@@ -52,9 +52,13 @@ pub record IsAdded (old new : Held) (olds news : List Totals) (c : ℕ) (p : Pie
   pub sums : news ≡ slice_set olds c (plus (sum_at olds c) x)
 
 -- what is held are the trials of these slips, and no other
+abbrev pub HoldsExactly : Held → List Slip → Type 0
+HoldsExactly trials slips = (t : ℕ) → has trials t ≡ is_in_base slips t
+
+-- with their sums
 pub record AreOver (v : Values) (slips : List Slip) (trials : Held) (sums : List Totals) : Type 0 where
   pub kept : AreKept v slips trials sums
-  pub exactly : (t : ℕ) → has trials t ≡ is_in_base slips t
+  pub exactly : HoldsExactly trials slips
 
 -- what a plan, a base and the numbers that are held are together
 abbrev pub contents_in : Values → List Slip → Held → Contents

@@ -1,8 +1,8 @@
--- How many cells of a ledger are done.
+-- How many cells of a tally are done.
 use Rattle.std.specs.Prelude.{ℕ, count_by}
 use Rattle.std.specs.List.{range_with_len}
-use Rattle.cut_ledger.specs.Contents.{Contents, cell_done}
+use Rattle.cut_ledger.specs.Tally.{Tally, has_cell}
 
 -- of the first n: each trial of theirs is held
-abbrev pub done_among : Contents → ℕ → ℕ
-done_among l n = count_by (cell_done l) (range_with_len 0 n)
+abbrev pub done_among : Tally → ℕ → ℕ
+done_among a n = count_by (has_cell a) (range_with_len 0 n)

@@ -2,7 +2,7 @@
 use Rattle.std.proofs.Common.{ℕ, ◌<◌, List, length, take, get_or, refl, arith}
 use Rattle.std.proofs.lemmas.List.{get_or_default, take_more}
 use Rattle.cut_ledger.proofs.Words.{Slip, each_number}
-use Rattle.cut_ledger.proofs.SlipLemmas.{apart_is, good_more, over_more}
+use Rattle.cut_ledger.proofs.SlipLemmas.{good_more, over_more}
 use Rattle.cut_ledger.proofs.ledger.add_slips.Goals as goal
 
 abbrev no_slip : Slip
@@ -12,23 +12,15 @@ pub returns-then-not-is_good-clause-err : goal.returns-then-not-is_good-clause-e
 returns-then-not-is_good-clause-err c =
     grind (arith, get_or_default)
 
-pub add-requires-clause-fits : goal.add-requires-clause-fits
-add-requires-clause-fits c =
-    grind (
-      arith,
-      apart_is c.args.plan.now (take c.loop-i.i c.args.slips.now) c.loop-i.kept.trials
-          c.loop-i.kept.sums.items,
-    )
-
 pub loop-i-preserved : goal.loop-i-preserved
 loop-i-preserved c =
     let slips : List Slip = c.args.slips.now in
     let i : ℕ = c.loop-i.i in
-    let good = (c.if-not-is_good.ensures.good (take i slips) c.loop-i.invariant.over).0 refl in
+    let good = (c.if-not-is_good.ensures.good (take i slips) c.loop-i.invariant.over.exactly).0 refl in
     let within : i < length slips = omega arith in
     record {
       over = rw (take_more slips i no_slip within) (over_more c.args.plan.now (take i slips) c.loop-i.kept.trials
           c.add.new.self.trials c.loop-i.kept.sums.items c.add.new.self.sums.items (get_or slips i no_slip)
-          c.loop-i.invariant.over good (c.if-not-is_good.ensures.few refl) c.in_ok-add.ensures.ok);
+          c.loop-i.invariant.over good (c.if-not-is_good.ensures.fits refl).few c.in_ok-add.ensures.ok);
       good = good_more c.args.plan.now slips i no_slip within c.loop-i.invariant.good good;
     }

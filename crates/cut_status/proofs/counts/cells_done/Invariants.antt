@@ -4,4 +4,4 @@ use Rattle.cut_status.proofs.counts.cells_done.Given as goal
 
 -- those of the cells so far
 abbrev pub invariant-loop-cell : goal.invariant-loop-cell
-invariant-loop-cell l = l.done ≡ done_among l.ledger.contents l.cell
+invariant-loop-cell l = l.done ≡ done_among l.tally l.cell

@@ -1,16 +1,16 @@
-use Rattle.std.proofs.Common.{◌≡◌, List, subst}
-use Rattle.std.specs.Prelude.{IfOk, OnOk}
-use Rattle.cut_ledger.specs.Slips.{AreGood}
-use Rattle.cut_ledger.specs.declared.slip.Slip.{Slip}
-use Rattle.cut_status.specs.Status.{status_over}
-use Rattle.cut_status.proofs.Readings.{over_study}
+use Rattle.std.proofs.Common.{List, ℕ, subst}
+use Rattle.cut_status.specs.inside.Study.{IsTallyIn}
+use Rattle.cut_status.proofs.Readings.{tally_fault, tally_study}
 use Rattle.cut_status.proofs.reading.status_of.Goals as goal
 
 pub returns-clause-ok : goal.returns-clause-ok
 returns-clause-ok c =
-    let v = c.in_ok-plan.plan in
-    let is = c.deref-3.ensures.value in
-    over_study c.over.result c.args.bytes.items v c.in_ok-slips.slips.items
-    (record { plan = c.in_ok-plan.ensures.plan; read = c.in_ok-slips.ensures.read })
-    (subst (λ (ss : List Slip). IfOk c.over.result (λ s. s ≡ status_over v ss)) is c.over.ensures.ok)
-    (subst (λ (ss : List Slip). OnOk c.over.result (AreGood v ss)) is c.over.ensures.good)
+    tally_study c.of.result c.args.bytes.items c.in_ok-plan.plan c.in_ok-tally.tally c.in_ok-plan.ensures.plan
+    (subst (λ (bytes : List ℕ). IsTallyIn c.in_ok-plan.plan bytes c.in_ok-tally.tally) c.deref-3.ensures.value
+    c.in_ok-tally.ensures.read) c.of.ensures.ok
+
+pub returns-clause-err : goal.returns-clause-err
+returns-clause-err c =
+    tally_fault c.of.result c.args.bytes.items c.in_ok-plan.plan c.in_ok-tally.tally c.in_ok-plan.ensures.plan
+    (subst (λ (bytes : List ℕ). IsTallyIn c.in_ok-plan.plan bytes c.in_ok-tally.tally) c.deref-3.ensures.value
+    c.in_ok-tally.ensures.read) c.of.ensures.err
