@@ -12,8 +12,8 @@ use Rattle.cut_plan.specs.Canonical.{canonical_text}
 use Rattle.cut_outcome.specs.declared.totals.Totals.{Totals}
 use Rattle.cut_ledger.specs.declared.slip.Slip.{Slip}
 
--- a gate is a byte that says whether what follows it counts: it is open where it is this byte, and closed
--- where it is any other; closed gates are written as 0
+-- a gate is a byte that says whether what follows it counts: it is open if it is this byte, and closed if it is any
+-- other; closed gates are written as 0
 abbrev pub open_gate : ℕ
 open_gate = 165
 
@@ -37,7 +37,7 @@ abbrev pub settled_number : Version → Totals → List ℕ
 settled_number One x = []
 settled_number Two x = x.settled ∷ []
 
--- a slip of a version keeps all of these totals: `settled` is 0 where it is not kept
+-- a slip of a version keeps all of these totals: `settled` is 0 if it is not kept
 abbrev pub HoldsAllTotals : Version → Totals → Type 0
 HoldsAllTotals One x = x.settled ≡ 0
 HoldsAllTotals Two x = ⊤

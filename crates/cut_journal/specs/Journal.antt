@@ -35,9 +35,9 @@ ReadsAs v slips doubtful bytes =
     (reading v bytes ≡ Ok slips)
     ⊎ ((slip : Slip) × ((doubtful ≡ Some slip) × (reading v bytes ≡ Ok (slips ++ slip ∷ []))))
 
--- what is true of a disk between the calls of its journal: as many slips are kept as the journal
--- counts; what reads give, and whatever a crash may leave, says these, or these and the doubtful one; and where
--- there is no doubtful one, all that was written is durable
+-- what is true of a disk between the calls of its journal: as many slips are kept as the journal counts; what reads
+-- give, and whatever a crash may leave, says these, or these and the doubtful one; and if there is no doubtful one, all
+-- that was written is durable
 pub record IsFileOf (v : Values) (count : ℕ) (doubtful : Option Slip) (d : DiskState) : Type 0 where
   pub counted : length (kept_slips v count d) ≡ count
   pub bytes : ReadsAs v (kept_slips v count d) doubtful d.bytes
@@ -77,9 +77,9 @@ ExtendsFile v count slip old new =
     (slips : List Slip) → length slips ≡ count → StartsWith old (file_of v slips)
     → StartsWith new (file_of v (slips ++ slip ∷ []))
 
--- an append of a slip, of a disk of which it is known what is on it: each crash at each moment of it leaves the slips that
--- were kept, or these and this one; where it is acknowledged, it is one of those that each later crash leaves, and the file
--- goes on by its bytes
+-- an append of a slip, of a disk of which it is known what is on it: each crash at each moment of it leaves the slips
+-- that were kept, or these and this one; if it is acknowledged, it is one of those that each later crash leaves, and
+-- the file goes on by its bytes
 pub record AppendsTo {D : Type 0} (result : Result ℕ JournalFault) (slip : Slip) (old new : JournalValue D)
     (before now : DiskState) : Type 0 where
   pub moments : Throughout before now
@@ -91,9 +91,9 @@ pub record AppendsTo {D : Type 0} (result : Result ℕ JournalFault) (slip : Sli
 
 -- ---- one append after another
 
--- slips are appended one after another to those that are kept: while one is appended, each crash at each moment
--- leaves those before it, or those and it; once it is acknowledged, it is one of those that each later crash leaves.
--- After the last of them the doubtful one, where there is one, may be there too
+-- slips are appended one after another to those that are kept: while one is appended, each crash at each moment leaves
+-- those before it, or those and it; once it is acknowledged, it is one of those that each later crash leaves. After the
+-- last of them the doubtful one, if there is one, may be there too
 abbrev pub AppendsEach : Values → List Slip → Option Slip → List Slip → DiskState → DiskState → Type 0
 AppendsEach v kept doubtful [] old new = Throughout old new (ReadsAs v kept doubtful)
 AppendsEach v kept doubtful (slip ∷ slips) old new =
@@ -107,7 +107,7 @@ taken (Err fault) slip = []
 
 -- ---- faults of the disk
 
--- how many calls of the disk failed, after a fault of a journal: one more exactly where it is that fault
+-- how many calls of the disk failed, after a fault of a journal: one more exactly if it is that fault
 abbrev pub fault_counts : JournalFault → ℕ → ℕ
 fault_counts Disk n = one_more n
 fault_counts fault n = n

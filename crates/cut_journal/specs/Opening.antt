@@ -31,8 +31,7 @@ IsOpeningFaultOf OtherPlan = ⊤
 IsOpeningFaultOf (Damaged number) = ⊤
 IsOpeningFaultOf fault = ⊥
 
--- what is on the disk: as before, but for a first sync that made all durable; nothing else where it was read to
--- its end
+-- what is on the disk: as before, but for a first sync that made all durable; nothing else if it was read to its end
 abbrev pub IsRead : JournalFault → DiskState → DiskState → Type 0
 IsRead Memory old new = (new ≡ old) ⊎ (new ≡ synced old)
 IsRead Disk old new = (new ≡ old) ⊎ (new ≡ synced old)
@@ -71,8 +70,8 @@ pub record IsMade (v : Values) (old new : DiskState) : Type 0 where
   pub file : StartsWith new.bytes (file_of v [])
   pub begun : IsBegunFile v old new
 
--- what is on the disk where no journal was made: Held comes exactly where there is a study already, and then
--- nothing was written; where memory runs out that is before anything is done
+-- what is on the disk if no journal was made: Held comes exactly where there is a study already, and then nothing was
+-- written; if memory runs out that is before anything is done
 abbrev pub IsNotMade : Values → JournalFault → DiskState → DiskState → Type 0
 IsNotMade v Held old new = (reading v old.bytes ≢ Err NoStudy) × (new ≡ synced old)
 IsNotMade v Memory old new = new ≡ old
@@ -103,9 +102,8 @@ MayNotClaim fault = ⊥
 abbrev pub IsClaimed : Values → DiskState → DiskState → Type 0
 IsClaimed v old new = (is_unclaimed old.bytes ≡ true) × IsMade v old new
 
--- what is on the disk where a file was not claimed: Held comes exactly where there is a study, NoStudy exactly where
--- the file is somebody else's. Then nothing was written, and nothing is written where the disk fails, but to an unclaimed
--- file
+-- what is on the disk if a file was not claimed: Held comes exactly where there is a study, NoStudy exactly if the file
+-- is somebody else's. Then nothing was written, and nothing is written if the disk fails, but to an unclaimed file
 abbrev pub IsNotClaimed : Values → JournalFault → DiskState → DiskState → Type 0
 IsNotClaimed v Held old new = (is_study old.bytes ≡ true) × (new ≡ synced old)
 IsNotClaimed v NoStudy old new = (is_foreign old.bytes ≡ true) × (new ≡ old)
@@ -116,12 +114,11 @@ IsNotClaimed v fault old new = ⊥
 
 -- ---- opening, whether there is a study or not
 
--- the slips that are found: those that bytes say, or none where the file is unclaimed
+-- the slips that are found: those that bytes say, or none if the file is unclaimed
 abbrev pub IsFoundOn : Values → List ℕ → List Slip → Type 0
 IsFoundOn v bytes slips = (reading v bytes ≡ Ok slips) ⊎ ((is_unclaimed bytes ≡ true) × (slips ≡ []))
 
--- what bytes say where none is opened; that memory ran out or a disk failed says nothing of them, and no other fault
--- comes
+-- what bytes say if none is opened; that memory ran out or a disk failed says nothing of them, and no other fault comes
 abbrev pub IsOpenFault : Values → List ℕ → JournalFault → Type 0
 IsOpenFault v bytes Memory = ⊤
 IsOpenFault v bytes Disk = ⊤
@@ -140,8 +137,8 @@ MayNotOpen Held = ⊤
 MayNotOpen NoStudy = ⊤
 MayNotOpen fault = ⊥
 
--- what is on the disk at the end: as before, but for a first sync that made all durable; or, where the file was
--- unclaimed, from the second sync on each crash at each moment leaves no study, or one without slips
+-- what is on the disk at the end: as before, but for a first sync that made all durable; or, if the file was unclaimed,
+-- from the second sync on each crash at each moment leaves no study, or one without slips
 abbrev pub IsOpening : Values → DiskState → DiskState → Type 0
 IsOpening v old new =
     (new ≡ old) ⊎ ((new ≡ synced old)

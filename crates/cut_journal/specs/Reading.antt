@@ -97,7 +97,7 @@ abbrev pub then_slips : Slip → Result (List Slip) JournalFault → Result (Lis
 then_slips slip (Ok slips) = Ok (slip ∷ slips)
 then_slips slip (Err fault) = Err fault
 
--- the slips after open gates, up to the first closed one; or the number of the first that is not whole, which is no
+-- the slips after open gates, up to the first closed one; or the number of the first that is not whole, which is not a
 -- slip or has no gate after it. The next slip has this number, and fewer are left than `more`
 abbrev pub slips_in : Values → ℕ → ℕ → List ℕ → Result (List Slip) JournalFault
 slips_in v zero number rest = Err (Damaged number)

@@ -6,7 +6,7 @@ ghost use Rattle.cut_journal.specs.inside.Steps.{WritesThrough};
 use cut_disks::laws::writes_stay_in_their_span;
 use cut_disks::{Disk, DiskFault};
 
-/// Writes bytes from a place on, and makes them durable.
+/// Writes bytes at a place and makes them durable.
 pub(crate) fn write_through<D: Disk>(disk: &mut D, at: u64, put: &[u8]) -> Result<(), DiskFault>
     requires { Knows (D.log disk.old) (λ d. at ≤ length d.bytes) }
     ensures writes { Goes (counted result) (WritesThrough result at put.now) (D.log disk.old) (D.log disk.new) }

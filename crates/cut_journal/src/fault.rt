@@ -7,11 +7,10 @@ use std::alloc::AllocError;
 use std::fmt;
 use thiserror::Error;
 
-/// Why a journal was not opened, or did not take a slip. Printed, it is its number, its name and the slip's
-/// number.
+/// Why a journal was not opened, or did not take a slip. It is printed as its number, its name and the slip's number.
 #[derive(Debug, Drop, PartialEq, Eq, Error)]
 pub enum JournalFault {
-    /// A growth of memory was refused.
+    /// Memory ran out.
     Memory,
     /// A call of the disk failed.
     Disk,

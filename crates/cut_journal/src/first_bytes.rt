@@ -1,4 +1,4 @@
-//! What the first bytes of a file say, of whichever plan it is.
+//! What the first bytes of a file say, whatever its plan.
 
 ghost use Rattle.std.specs.Prelude.{◌≡◌, ◌+◌, ◌≤◌, false, length, slice_range, IfSome, IfNone, if◌then◌else◌};
 ghost use Rattle.std.specs.Prelude.{Some, None};
@@ -7,7 +7,7 @@ ghost use Rattle.cut_journal.specs.Reading.{can_have_header, has_header, is_stud
 use crate::format::{OPEN_GATE, digest_of};
 use crate::layout;
 
-/// Whether bytes hold a study, of whichever plan.
+/// Whether bytes hold a study of some plan.
 pub fn is_study(bytes: &[u8]) -> bool
     ensures { result ≡ is_study bytes.now }
 {

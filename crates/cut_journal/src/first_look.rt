@@ -11,11 +11,11 @@ use cut_disks::{Disk, DiskFault};
 pub(crate) struct Shown {
     /// How many bytes there are.
     pub length: u64,
-    /// Whether there is a study, of whichever plan.
+    /// Whether there is a study of some plan.
     pub is_study: bool,
 }
 
-/// Makes durable what is there, and looks whether it is a study.
+/// Syncs the disk, and checks whether it holds a study.
 pub(crate) fn look_first<D: Disk>(disk: &mut D) -> Result<Shown, DiskFault>
     ensures looks { Goes (counted result) (Looks result) (D.log disk.old) (D.log disk.new) }
     ensures bound { IfOk result (λ shown. shown.length < 2 ^ 63) }

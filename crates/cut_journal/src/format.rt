@@ -65,7 +65,7 @@ impl Model for FileHeader {
 }
 
 impl FileHeader {
-    /// The header of a plan's file. Fails only where memory runs out.
+    /// The header of a plan's file.
     pub fn of(alloc: Global, plan: &Plan) -> Result<FileHeader, AllocError>
         ensures { IfOk result (λ study. study ≡ plan.now) }
     {
@@ -100,7 +100,7 @@ impl FileHeader {
         self.plan.version()
     }
 
-    /// What its file begins with, up to the gate of the first slip.
+    /// The first bytes of its file, up to the gate of the first slip.
     pub fn prefix(&self) -> &[u8]
         ensures bytes { result.now ≡ prefix_of self.now }
         ensures long { length result.now ≡ length (canonical_text self.now) + 45 }
@@ -116,8 +116,7 @@ impl FileHeader {
         let _ = &self.plan;
     }
 
-    /// What stands in its file after the first byte, up to the gate of the first slip, which is closed.
-    /// Fails only where memory runs out.
+    /// The file from byte 1 through the first slip's gate, which is still closed.
     pub fn rest(&self, alloc: Global) -> Result<Vec<u8>, AllocError>
         ensures { IfOk result (λ rest. rest.items ≡ rest_of self.now) }
     {
@@ -177,8 +176,8 @@ impl FileHeader {
         &prefix[1..9] == magic_of(self.version()).as_slice()
     }
 
-    /// What is written of a slip after its gate, and then the next gate, closed: as many bytes as a slip
-    /// has, and after these some that are not used.
+    /// The bytes of a slip after its gate, then the next gate, closed: as many bytes as a slip has, and then some
+    /// unused ones.
     pub fn slip_bytes(&self, slip: Slip) -> [u8; 113]
         ensures bytes { take (slip_length (version_of self.now.failing)) result
             ≡ body_of self.now slip ++ closed_gate ∷ [] }

@@ -50,8 +50,8 @@ impl<D: Disk> Model for Journal<D> {
 }
 
 impl<D: Disk> Journal<D> {
-    /// Makes the journal of a study on a disk that holds none. The disk is handed back where none is made:
-    /// it holds a study already, it failed, or memory ran out.
+    /// Makes the journal of a study on a disk that holds none. The disk is handed back if none is made: it holds a
+    /// study already, it failed, or memory ran out.
     pub fn create(alloc: Global, disk: D, plan: &Plan) -> Result<Journal<D>, (JournalFault, D)>
         ensures plan { IfOk result (λ journal. journal.plan ≡ plan.now) }
         ensures empty { IfOk result (λ journal. (journal.count ≡ 0) × (journal.doubtful ≡ None)) }
@@ -79,8 +79,8 @@ impl<D: Disk> Journal<D> {
         }
     }
 
-    /// Opens the journal of a study again, with the slips that are kept. The disk is handed back where it
-    /// holds no study, or one of another plan, or is damaged, where it failed, or memory ran out.
+    /// Opens the journal of a study again, with the slips that are kept. The disk is handed back where it holds no
+    /// study, or one of another plan, or is damaged, if it failed, or memory ran out.
     ///
     /// Nothing is written.
     pub fn reopen(
@@ -116,9 +116,9 @@ impl<D: Disk> Journal<D> {
         }
     }
 
-    /// Keeps what a result says of its piece, and answers the slip's number, from 1. Takes no memory.
+    /// Appends the slip of a result, and returns its number, from 1. Takes no memory.
     ///
-    /// Where the disk fails it is not known whether the slip is kept, and nothing is taken any more.
+    /// If the disk fails it is not known whether the slip is kept, and nothing is taken any more.
     pub fn append(&mut self, offered: &PieceResult) -> Result<u64, JournalFault>
         ensures broken { IsErrOf result JournalFault.Broken ↔ IsSome self.old.doubtful }
         ensures other_plan { IsErrOf result JournalFault.OtherPlan
@@ -137,10 +137,10 @@ impl<D: Disk> Journal<D> {
         self.append_slip(slip_of(offered))
     }
 
-    /// Keeps a slip that is known already, as one of another file of this plan, and answers its number, from 1.
-    /// Takes no memory. A plan of version 1 keeps no `settled`, so the slip's has to be 0 there.
+    /// Appends a slip that is known already, as one of another file of this plan, and returns its number, from 1. Takes
+    /// no memory. A plan of version 1 keeps no `settled`, so the slip's has to be 0 there.
     ///
-    /// Where the disk fails it is not known whether the slip is kept, and nothing is taken any more.
+    /// If the disk fails it is not known whether the slip is kept, and nothing is taken any more.
     pub fn append_slip(&mut self, slip: Slip) -> Result<u64, JournalFault>
         requires { HoldsAllTotals (version_of self.old.plan.failing) slip.totals }
         ensures broken { IsErrOf result JournalFault.Broken ↔ IsSome self.old.doubtful }

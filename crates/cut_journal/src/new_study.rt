@@ -62,7 +62,7 @@ fn write_new<D: Disk>(disk: &mut D, file: NewFile<'_>, size: u64) -> Result<(), 
     open(disk, file.study)
 }
 
-/// Makes the gate of the study a closed one, where there is no byte for it, or it is all that there is.
+/// Makes the gate of the study a closed one, if there is no byte for it, or it is all that there is.
 ///
 /// A longer file has a closed one already, and a write there could open it.
 fn close<D: Disk>(disk: &mut D, size: u64) -> Result<(), DiskFault>

@@ -14,8 +14,8 @@ use std::alloc::Global;
 
 impl<D: Disk> Journal<D> {
     /// Makes the journal of a study on an unclaimed disk: one that is empty, or whose first byte is zero, as an
-    /// interrupted creation leaves it. The disk is handed back where none is made: it holds a study already, or
-    /// something else, which stays as it is; it failed; or memory ran out.
+    /// interrupted creation leaves it. The disk is handed back if none is made: it holds a study already, or something
+    /// else, which stays as it is; it failed; or memory ran out.
     pub fn claim(alloc: Global, disk: D, plan: &Plan) -> Result<Journal<D>, (JournalFault, D)>
         ensures plan { IfOk result (λ journal. journal.plan ≡ plan.now) }
         ensures empty { IfOk result (λ journal. (journal.count ≡ 0) × (journal.doubtful ≡ None)) }
@@ -34,8 +34,8 @@ impl<D: Disk> Journal<D> {
     }
 
     /// Opens the journal of a study again with the slips that are kept, or makes one without slips on an unclaimed
-    /// disk, as `claim` does. The disk is handed back where its study is of another plan or is damaged, where it holds
-    /// something else than a study, where it failed, or memory ran out.
+    /// disk, as `claim` does. The disk is handed back if its study is of another plan or is damaged, where it holds
+    /// something else than a study, if it failed, or memory ran out.
     ///
     /// Of a disk of which nothing is known, the answer may also be that it holds a study after all.
     pub fn open(

@@ -73,7 +73,7 @@ slip_sum ss = each_number (λ n. sum_by (λ s. n s.totals) ss)
 abbrev pub slips_of_cell : Values → List Slip → ℕ → List Slip
 slips_of_cell v ss c = filter (λ s. s.piece.first / v.repeats == c) ss
 
--- the trials of cell number c that pass a test, but for those of the slips
+-- the trials of cell number c that pass a test, except for those of the slips
 abbrev pub further_trials : Values → List Slip → (ℕ → Bool) → ℕ → List ℕ
 further_trials v ss test c = filter (λ t. test t && not (is_in_base ss t)) (trials_of_cell v c)
 

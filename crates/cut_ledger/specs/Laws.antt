@@ -28,7 +28,7 @@ PiecesCover =
     (l : Contents) (size : ℕ) → 1 ≤ size →
     flat_map trials_in (pieces_of l size) ≡ filter (λ t. not (has l t)) (all_trials l.plan)
 
--- two accepted plans are the same where they are equal
+-- two accepted plans are the same if they are equal
 abbrev pub SamePlansAreEqual : Type 0
 SamePlansAreEqual = (a b : Values) → IsPlan a → IsPlan b → IsTrue (is_same_plan a b) ↔ (a ≡ b)
 

@@ -22,7 +22,7 @@ pub record CanTake (l : Contents) (r : Computed) : Type 0 where
   pub plan : r.plan ≡ l.plan
   pub apart : overlaps l r.piece ≡ false
 
--- the fault of an offer: its refusal, or where there is none, that memory ran out
+-- the fault of an offer: its refusal, or if there is none, that memory ran out
 abbrev pub fault_of_offer : Option OfferFault → OfferFault
 fault_of_offer None = Memory
 fault_of_offer (Some refusal) = refusal

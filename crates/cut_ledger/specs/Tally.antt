@@ -1,4 +1,4 @@
--- Slips that are judged one after another, where no list of them is kept.
+-- Slips that are judged one after another, if no list of them is kept.
 use Rattle.std.specs.Prelude.{◌≡◌, ℕ, Bool, false, List, length, Option, Some, None, slice_index_or}
 use Rattle.std.specs.List.{list_all}
 use Rattle.cut_plan.specs.Values.{Values}

@@ -85,10 +85,9 @@ pub record IsRight (v : Values) (w : World) : Type 0 where
   pub plan : w.state.ledger.plan ≡ v
   -- what the present wire took is a prefix of the plan's table
   pub begins : (rest : List ℕ) × (table v ≡ w.bytes ++ rest)
-  -- and all of it where the run is done
+  -- and all of it if the run is done
   pub whole : reply_to w.state Finish ≡ reply.Done → w.bytes ≡ table v
-  -- a trial is in one piece at most of those of the base and those accepted since, and in one exactly where
-  -- it is held
+  -- a trial is in one piece at most of those of the base and those accepted since, and in one exactly if it is held
   pub once : (t : ℕ) →
       times_in (pieces_of_slips w.state.ledger.base ++ w.accepted) t ≡ one_if (has w.state.ledger t)
   -- where every trial is held, the whole table can be written

@@ -4,7 +4,7 @@ use crate::Slip;
 use std::alloc::{AllocError, Global};
 use std::marker::Model;
 
-/// The slips that a ledger begins with, in order. Contracts see it as their list.
+/// The slips that a ledger begins with, in order. Contracts see a list.
 #[derive(Debug, Drop)]
 pub struct Base {
     slips: Vec<Slip>,
@@ -20,14 +20,14 @@ impl Model for Base {
 }
 
 impl Base {
-    /// The base that a `Vec` lists.
+    /// The base with the slips of a `Vec`.
     pub fn from_vec(slips: Vec<Slip>) -> Base
         ensures { result ≡ slips.items }
     {
         Base { slips }
     }
 
-    /// The `Vec` that lists the slips.
+    /// The slips as a `Vec`.
     pub fn into_vec(self) -> Vec<Slip>
         ensures { result.items ≡ self }
     {
@@ -42,7 +42,7 @@ impl Base {
         self.slips.as_slice()
     }
 
-    /// A copy of the base. Fails only where memory runs out.
+    /// A copy of the base.
     pub fn try_clone(&self, alloc: Global) -> Result<Base, AllocError>
         ensures { IfOk result (λ base. base ≡ self.now) }
     {

@@ -2,7 +2,7 @@ ghost use Rattle.std.specs.Prelude.{◌≡◌};
 
 use std::marker::Model;
 
-/// Some bytes, which contracts see as their list.
+/// Some bytes. Contracts see a list.
 #[derive(Debug, Drop)]
 pub struct Bytes {
     bytes: Vec<u8>,
@@ -17,14 +17,14 @@ impl Model for Bytes {
 }
 
 impl Bytes {
-    /// The bytes that a `Vec` lists.
+    /// The bytes in a `Vec`.
     pub fn from_vec(bytes: Vec<u8>) -> Bytes
         ensures { result ≡ bytes.items }
     {
         Bytes { bytes }
     }
 
-    /// The `Vec` that lists the bytes.
+    /// The bytes as a `Vec`.
     pub fn into_vec(self) -> Vec<u8>
         ensures { result.items ≡ self }
     {

@@ -16,10 +16,10 @@ struct Stretch {
     end: u32,
 }
 
-/// How the gaps of a ledger are cut into pieces of one size, each gap from its beginning, its last piece shorter
-/// where less is left. Contracts see it as the list of its pieces, in order.
+/// How the gaps of a ledger are cut into pieces of one size: each gap from its beginning, the last piece of a gap
+/// shorter if less is left. Contracts see the list of its pieces, in order.
 ///
-/// It takes memory for each gap and none for a piece: a piece is worked out from its number.
+/// It takes memory for each gap and none for a piece, which is computed from its number.
 #[derive(Debug, Drop)]
 pub struct Division {
     stretches: Vec<Stretch>,
@@ -39,7 +39,7 @@ impl Model for Division {
 }
 
 impl Division {
-    /// The pieces of gaps. Fails only where memory runs out.
+    /// The pieces of gaps.
     pub(crate) fn of_gaps(alloc: Global, gaps: &[Piece], size: u32) -> Result<Division, AllocError>
         requires size { 1 ≤ size }
         requires fit { All (λ p. p.first + p.count < 2 ^ 32) gaps.now }
@@ -78,7 +78,7 @@ impl Division {
     }
 }
 
-/// How many gaps have all their pieces before that of a number.
+/// How many gaps have all their pieces before a piece number.
 fn gaps_before(stretches: &[Stretch], number: u64) -> usize
     requires { IsNonDecreasingBy (λ s. s.end) stretches.now }
     ensures within { result ≤ length stretches.now }

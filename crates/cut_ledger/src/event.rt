@@ -2,7 +2,7 @@ use crate::Bytes;
 use cut_faults::FaultCode;
 use cut_outcome::{Piece, PieceResult};
 
-/// What happens to a run of a study.
+/// An event of a run of a study.
 #[derive(Debug, Drop)]
 pub enum Event {
     /// A worker asks for the next piece.
@@ -20,7 +20,7 @@ pub enum Event {
         /// The size of the pieces of the new division.
         size: u32,
     },
-    /// A write of the wire takes at most this many of the bytes that there are for it.
+    /// A write to the wire takes at most this many of the bytes that are ready.
     Emit(u64),
     /// The same, and then the wire fails.
     WireFails(u64),
@@ -30,7 +30,7 @@ pub enum Event {
     Finish,
 }
 
-/// What a run answers to an event.
+/// The answer of a run to an event.
 #[derive(Debug, Drop)]
 pub enum Reply {
     /// The next piece of the division.

@@ -25,9 +25,9 @@ pub fn gaps_are_what_is_not_held()
     spans_are_what_passes();
 }
 
-/// The pieces of any size that a ledger lacks can be added in their order: none of them meets one before it,
-/// and then every trial is held and every cell is done. What can be written then is the table over the slips
-/// that the ledger began with.
+/// The pieces of any size that a ledger lacks can be added in their order: none of them overlaps an earlier one, and at
+/// the end every trial is held and every cell is done. What can be written then is the table over the slips that the
+/// ledger began with.
 pub fn pieces_fill_a_ledger()
     ensures fill { PiecesFill }
     ensures done { CompleteIsDone }
@@ -41,9 +41,8 @@ pub fn slips_meet_in_their_ledger()
     ensures { SlipsMeetInTheirLedger }
 {}
 
-/// Slips that are true, no trial of which is in two, are good ones to begin a ledger with, and the table over
-/// them is the table of the plan: so a study that is resumed from such slips, or from none, gives what a study
-/// does that ran at once.
+/// A ledger can begin with true slips no two of which share a trial, and the table over them is the table of the plan.
+/// So a study that is resumed from such slips, or from none, gives the table of an uninterrupted study.
 pub fn true_slips_give_the_table()
     ensures good { TrueSlipsAreGood }
     ensures table { TrueSlipsGiveTheTable }
@@ -61,10 +60,10 @@ pub fn same_plans_are_equal()
     canonical_text_reads_back();
 }
 
-/// Every run is right: over every list of events, resumptions after crashes included, and any results of
-/// any plans, what the present wire took is a prefix of the plan's table, and all of it where the run
-/// answers that it is done; each trial is held at most once; where all are held the whole table can be
-/// written; and the slips that are kept are true, no trial being in two of them.
+/// Every run is right: over every list of events, resumptions after crashes included, and any results of any plans,
+/// what the present wire took is a prefix of the plan's table, and all of it if the run answers that it is done; each
+/// trial is held at most once; if all are held the whole table can be written; and the slips that are kept are true, no
+/// trial being in two of them.
 pub fn every_run_is_right()
     ensures { (journal : Bool) (v : Values) (size : ℕ) (events : List Event) → IsPlan v
         → AllByRecursion HasTrueResult events → IsRight v (run (begun (start v size journal)) events) }

@@ -42,7 +42,7 @@ impl Model for Ledger {
 }
 
 impl Ledger {
-    /// A ledger that holds no trial. Fails only where memory runs out.
+    /// A ledger that holds no trial.
     pub fn fresh(alloc: Global, plan: Plan) -> Result<Ledger, AllocError>
         ensures { IfOk result (λ l. l.contents ≡ over_base plan []) }
     {
@@ -51,9 +51,8 @@ impl Ledger {
         Ok(Ledger { plan, base, kept })
     }
 
-    /// A ledger that holds the trials of slips, with their sums. It is refused by the number
-    /// of the first slip that is no piece of the plan, has a trial of an earlier one, or whose totals are
-    /// not possible ones.
+    /// A ledger that holds the trials of slips, with their sums. The fault is the number of the first slip that is not
+    /// of a piece of the plan, has a trial of an earlier one, or has impossible totals.
     pub fn from_slips(alloc: Global, plan: Plan, slips: &[Slip]) -> Result<Ledger, SlipsFault>
         ensures ok { IfOk result (λ l. l.contents ≡ over_base plan slips.now) }
         ensures good { OnOk result (AreGood plan slips.now) }
@@ -103,8 +102,8 @@ impl Ledger {
         self.kept.trials.covers(span_of_cell(&self.plan, cell))
     }
 
-    /// The sums of a cell: what the base says of its slips, and the outcome of each other held trial,
-    /// once. There are fewer than 2^32 conflicts.
+    /// The sums of a cell: the totals of the base's slips, and the outcome of each other held trial, once. There are
+    /// fewer than 2^32 conflicts.
     pub fn cell_sum(&self, cell: u32) -> Totals
         requires { cell < length (cells_of self.now.contents.plan) }
         ensures value { result ≡ cell_sum self.now.contents cell }
@@ -124,8 +123,8 @@ impl Ledger {
         self.kept.trials.covers(all)
     }
 
-    /// The gaps: the greatest runs of trials that are not held, ascending, none over two cells. Each is a
-    /// piece of the plan. Fails only where memory runs out.
+    /// The gaps: the greatest runs of trials that are not held, ascending, none over two cells. Each is a piece of the
+    /// plan.
     pub fn gaps(&self, alloc: Global) -> Result<Vec<Piece>, AllocError>
         ensures value { IfOk result (λ gaps. gaps.items ≡ gaps_of self.now.contents) }
         ensures pieces { IfOk result
@@ -141,8 +140,7 @@ impl Ledger {
         pieces_at(alloc, &gaps)
     }
 
-    /// The gaps in order, each cut from its beginning into pieces of this size, its last one shorter where
-    /// less is left. Fails only where memory runs out.
+    /// The gaps in order, each cut from its beginning into pieces of this size, the last one shorter if less is left.
     pub fn pieces(&self, alloc: Global, size: u32) -> Result<Vec<Piece>, AllocError>
         requires { 1 ≤ size }
         ensures value { IfOk result (λ pieces. pieces.items ≡ pieces_of self.now.contents size) }
@@ -158,8 +156,7 @@ impl Ledger {
         Ok(pieces)
     }
 
-    /// The same pieces, each worked out from its number: takes memory for each gap, and none for a piece.
-    /// Fails only where memory runs out.
+    /// The same pieces, each computed from its number. It takes memory for each gap, and none for a piece.
     pub fn divide(&self, alloc: Global, size: u32) -> Result<Division, AllocError>
         requires { 1 ≤ size }
         ensures value { IfOk result (λ pieces. pieces ≡ pieces_of self.now.contents size) }
@@ -178,7 +175,7 @@ impl Ledger {
         self.kept.trials.has_room(cell)
     }
 
-    /// Makes room for a piece of a cell. Fails only where memory runs out.
+    /// Reserves room for a piece of a cell.
     pub fn reserve(&mut self, cell: u32) -> Result<(), AllocError>
         requires { cell < length (cells_of self.old.contents.plan) }
         ensures ok { OnOk result (self.new ≡ record self.old { room = slice_set self.old.room cell true }) }
@@ -202,8 +199,8 @@ impl Ledger {
         None
     }
 
-    /// Takes a result that is not refused: its trials are held, and their outcomes in the sums. Fails
-    /// only where memory runs out, and never where there is room.
+    /// Takes a result that is not refused: its trials are held, and their outcomes are added to the sums. Fails only if
+    /// memory runs out, and never where there is room.
     pub fn take(&mut self, offered: &PieceResult) -> Result<(), AllocError>
         requires { CanTake self.old.contents offered.now }
         ensures ok { OnOk result (self.new.contents ≡ with_piece self.old.contents offered.now.piece) }

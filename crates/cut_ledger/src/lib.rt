@@ -1,8 +1,8 @@
 //! The ledger of a study: which trials are held, and the sums over them.
 //!
-//! A ledger begins with slips, which an earlier run of the study left, and takes the results of pieces,
-//! in any order. Each trial is counted once at most. A `Run` is a study with its ledger and one wire at a
-//! time, as a machine of the events that happen to it; [`laws`] say what every run keeps.
+//! A ledger begins with slips, which an earlier run of the study left, and takes the results of pieces, in any order.
+//! Each trial is counted once at most. A `Run` is a study with its ledger and one wire at a time, as a state machine;
+//! [`laws`] say what every run keeps.
 #![tactic(auto)]
 
 mod available;

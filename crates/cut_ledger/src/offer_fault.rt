@@ -6,10 +6,10 @@ use std::alloc::AllocError;
 use std::fmt;
 use thiserror::Error;
 
-/// Why a ledger did not take a result. Printed, it is its number and its name.
+/// Why a ledger did not take a result. It is printed as its number and its name.
 #[derive(Debug, Drop, Error)]
 pub enum OfferFault {
-    /// A growth of memory was refused.
+    /// Memory ran out.
     Memory,
     /// The result is of another plan.
     Stranger,

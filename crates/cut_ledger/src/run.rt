@@ -17,9 +17,9 @@ use cut_plan::Plan;
 use std::alloc::{AllocError, Global};
 use std::marker::Model;
 
-/// One study with one wire at a time: the machine whose events are what happens to a running study.
+/// One study with one wire at a time: a state machine, whose events are what happens to a running study.
 ///
-/// Contracts see its state. Where memory runs out it stays as it was.
+/// Contracts see its state. If memory runs out, it stays as it was.
 #[derive(Debug, Drop)]
 pub struct Run {
     ledger: Ledger,
@@ -122,7 +122,7 @@ impl Run {
         }
     }
 
-    /// Why a result is refused, if it is.
+    /// The reason to refuse a result, if there is one.
     fn refusal(&self, offered: &PieceResult) -> Option<FaultCode>
         ensures code { result ≡ refused_code self.now offered.now }
         ensures unbroken { IfNone result (self.now.broken ≡ false) }

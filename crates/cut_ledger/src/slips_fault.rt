@@ -6,12 +6,13 @@ use std::alloc::AllocError;
 use std::fmt;
 use thiserror::Error;
 
-/// Why a ledger was not made of slips. Printed, it is its number, its name and the slip's number.
+/// Why a ledger was not made of slips. It is printed as its number, its name and the slip's number.
 #[derive(Debug, Drop, Error)]
 pub enum SlipsFault {
-    /// A growth of memory was refused.
+    /// Memory ran out.
     Memory,
-    /// The slip of this number, from 1, is no piece, overlaps an earlier one, or has impossible totals.
+    /// The slip of this number, from 1, is not of a piece of the plan, overlaps an earlier slip, or has impossible
+    /// totals.
     BadSlip(u64),
 }
 

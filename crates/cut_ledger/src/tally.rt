@@ -36,7 +36,7 @@ impl Model for SlipTally {
 }
 
 impl SlipTally {
-    /// A tally to which no slip was added. Fails only where memory runs out.
+    /// A tally to which no slip was added.
     pub fn new(alloc: Global, plan: Plan) -> Result<SlipTally, AllocError>
         ensures plan { IfOk result (λ tally. tally.plan ≡ plan) }
         ensures empty { IfOk result (λ tally. HasAdded tally []) }
@@ -52,7 +52,7 @@ impl SlipTally {
     }
 
     /// Adds the slip that comes after those before it. One that is not good is refused, and none that comes after it is
-    /// judged any more. Fails only where memory runs out.
+    /// judged any more.
     pub fn add(&mut self, slip: &Slip) -> Result<(), AllocError>
         ensures plan { self.new.plan ≡ self.old.plan }
         ensures added { OnOk result ((before : List slips.Slip) → HasAdded self.old before →

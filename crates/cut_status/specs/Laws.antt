@@ -9,7 +9,7 @@ use Rattle.cut_status.specs.Study.{IsStatusOf, IsStatusFault}
 abbrev pub StatusesAreOne : Type 0
 StatusesAreOne = (bytes : List ℕ) (s t : StatusValue) → IsStatusOf bytes s → IsStatusOf bytes t → s ≡ t
 
--- and where they have one, no fault says anything of them but that memory ran out
+-- and if they have one, no fault says anything of them but that memory ran out
 abbrev pub FaultsAreOfOthers : Type 0
 FaultsAreOfOthers =
     (bytes : List ℕ) (s : StatusValue) (e : StatusFault) → IsStatusOf bytes s → IsStatusFault bytes e → e ≡ Memory

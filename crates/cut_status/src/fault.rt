@@ -9,7 +9,7 @@ use thiserror::Error;
 /// Why bytes have no status. Printed, it is its number, its name and the slip's number.
 #[derive(Debug, Drop, PartialEq, Eq, Error)]
 pub enum StatusFault {
-    /// A growth of memory was refused.
+    /// Memory ran out.
     Memory,
     /// They hold no study.
     NoStudy,

@@ -45,7 +45,7 @@ fn tally_in(alloc: Global, bytes: &[u8], plan: Plan) -> Result<SlipTally, Status
     }
 }
 
-/// The tally of all slips of the study of a plan. One that is damaged is reported also where it comes after a bad one.
+/// The tally of all slips of the study of a plan. One that is damaged is reported also if it comes after a bad one.
 fn tally_of(alloc: Global, bytes: &[u8], plan: Plan) -> Result<SlipTally, JournalFault>
     ensures read { IfOk result (IsTallyIn plan bytes.now) }
     ensures err { IfErr result (IsUnreadable plan bytes.now) }

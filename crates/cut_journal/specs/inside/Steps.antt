@@ -1,4 +1,4 @@
--- What the private steps of a journal do to a disk, where it is known what is on it.
+-- What the private steps of a journal do to a disk, if it is known what is on it.
 use Rattle.std.specs.Prelude.{◌≡◌, ◌⊎◌, ◌∷◌, ◌++◌, ◌+◌, ◌^◌, ◌<◌, ◌==◌, ℕ, true, false, List, length, Option, Some}
 use Rattle.std.specs.Prelude.{None, Result, Ok, Err, ⊤, Bool, [], slice_index, IfOk, OnOk}
 use Rattle.std.specs.Io.{StartsWith}
@@ -25,8 +25,8 @@ WritesThrough (Err fault) at put old new =
     (new ≡ old) ⊎ ((torn : List ℕ) × (IsTorn at (at + length put) old.bytes torn
     × (new ≡ begun old at (at + length put) torn)))
 
--- the first sync with its reads: all is durable, also where a read failed after it; they show the length, and whether there
--- is a study
+-- the first sync with its reads: all is durable, also if a read failed after it; they show the length, and whether
+-- there is a study
 abbrev pub Looks : {E : Type 0} → Result Shown E → DiskState → DiskState → Type 0
 Looks (Ok shown) old new =
     (shown.length ≡ length old.bytes) × (shown.is_study ≡ is_study old.bytes) × (new ≡ synced old)
@@ -145,7 +145,7 @@ pub record WritesNew {E : Type 0} (result : Result ⊤ E) (v : Values) (old new 
   pub made : OnOk result (reading v new.bytes ≡ Ok [])
   pub file : OnOk result (StartsWith new.bytes (file_of v []))
 
--- a study is made where there is none, and all is durable; or why it isn't
+-- a study is made if there is none, and all is durable; or why it isn't
 abbrev pub Makes : Result ⊤ JournalFault → Values → DiskState → DiskState → Type 0
 Makes (Ok done) v old new = IsMade v old new × (new.stable ≡ settled new.bytes)
 Makes (Err fault) v old new = IsNotMade v fault old new
