@@ -108,8 +108,10 @@ first_before v ss more n is =
       numbered = is.numbered;
       within = omega (arith, is.within, length-append ss more);
       earlier = good_before v ss more (n - 1) (omega (arith, here)) is.earlier;
-      bad = λ d good. is.bad d (rw (take-append-le (n - 1) ss more (omega (arith, here)),
-          get_or-append ss more d (n - 1) here) at good);
+      bad = λ d good. is.bad d (rw (
+        take-append-le (n - 1) ss more (omega (arith, here)),
+        get_or-append ss more d (n - 1) here,
+      ) at good);
     }
 
 first_here : (v : Values) (ss : List Slip) (s : Slip) (n : ℕ) → n ≡ length ss → AreGood v ss → (IsGood v ss s → ⊥)
