@@ -1,8 +1,8 @@
 """Proves and builds the program, crates/cutlab/out/cutlab, for who wants to use it: ./build
 
-The crates that it stands on are proved, as many side by side as there are processors and memory for, without the edits that
-must fail and the crates of tests: `rt ci` over a copy that has nothing else. A line says of each crate when it is proved, and
-about how long the rest may take. What was proved is kept on this machine, so that a first `rt ci` does not prove it again."""
+The crates that it stands on are proved, as many side by side as there are processors and memory for, without the edits that must
+fail and the crates of tests: `rt ci` over a copy that has nothing else. A line says of each crate when it is proved, how far the
+build is, and how long it may still take. What was proved is kept on this machine, so that a first `rt ci` does not prove it again."""
 import contextlib
 import os
 import re
@@ -20,7 +20,7 @@ from .commands import parser
 from .paths import PROGRAM, ROOT, copy, require
 from .program import connect
 
-# How long a build may take, and the server of the program that was built.
+# How long an unproved build may take, and the server of the program that was built.
 BUILD_SECONDS, SERVED_SECONDS = 900, 60
 
 

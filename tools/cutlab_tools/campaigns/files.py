@@ -45,9 +45,9 @@ CALL = re.compile(r'(?:\[pid +\d+\] |\d+ +)?(?:fsync|pwrite64)\(3(?:, "((?:\\x[0
 
 
 class Crashes(Campaign):
-    """Crash images: the writes and syncs of a real run, as strace shows them, up to a drawn moment. Of what was written since
-    the last sync any byte may be there or another. Each reads as the acknowledged slips or one more, and is gone on with.
-    """
+    """Crash images: the writes and syncs of a real run, as strace shows them, up to a drawn moment. Of what was written
+    since the last sync any byte may be there, or not, or be another. Each image has to read as the acknowledged slips, or
+    these and one more, and to be gone on with."""
 
     def calls_of(self, text: bytes, piece: int) -> Calls:
         """The writes and the syncs of a run into a new file, which is the first that it opens."""
@@ -87,9 +87,9 @@ def long_plan(rng: random.Random, size: float) -> Plan:
 
 
 class Kills(Campaign):
-    """`kill -9` at drawn moments: a study with a checkpoint, or the one share of it, is killed and given again until it is done.
-    Its table is that of a study that ran at once, and the reference's of a small one; what it wrote before is a prefix.
-    """
+    """`kill -9` at drawn moments: a study with a checkpoint, or the one share of it, is killed and given again until it is
+    done, and its table is that of a study that ran at once; where the study is small, it is the reference's. What it wrote
+    before is a prefix of what it writes then."""
 
     options = {"size": dict(type=float, default=1, help="how large the studies are: less than 1 for a slow program")}
 

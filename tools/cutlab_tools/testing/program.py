@@ -1,4 +1,4 @@
-"""tests/program [PROGRAM] [-k NAME]: what a built program does with its words, files and streams. Each difference is printed."""
+"""tests/program: what a built program does with its words, files and streams. Each difference is printed, their number last."""
 import contextlib
 import hashlib
 import json

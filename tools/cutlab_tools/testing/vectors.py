@@ -1,4 +1,4 @@
-"""tests/vectors [PROGRAM] [-k NAME]: the values of tests/data, which were computed elsewhere, beside those of a built program."""
+"""tests/vectors: values of tests/data, computed elsewhere, beside a program's. Each difference is printed, their number last."""
 import contextlib
 import json
 import re
