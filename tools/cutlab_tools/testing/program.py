@@ -229,6 +229,7 @@ class PlanFiles(ProgramCases):
             self.expect(line, wanted, self.answer(line.format("plan.json"), b"no plan"))
         self.ends("run --piece 1 --checkpoint old.cut plan.json", TABLE, b"")
         self.ends("migrate old.cut new.cut --plan plan.json", "migrated 2\n", b"")
+        self.ends("join joined.cut old.cut --plan plan.json", "joined 2 into 1, 2 of 2\n", b"")
         self.expect("the plan's file", PLAN, self.file("plan.json").read_bytes())
 
     def test_asked(self) -> None:
@@ -249,8 +250,9 @@ class PlanFiles(ProgramCases):
         for name, (text, fault) in texts.items():
             self.file(name).write_bytes(text)
             faults[name] = refused(fault, 3)
+        lines = "run {0}", "check {0}", "canonical {0}", "share 1/1 share.cut --plan {0}", "join j.cut o.cut --plan {0}"
         for name, wanted in faults.items():
-            for line in ("run {0}", "check {0}", "canonical {0}", "share 1/1 share.cut --plan {0}"):
+            for line in lines:
                 self.ends_soon(line.format(name), wanted)
 
     def test_own_checkpoint(self) -> None:
