@@ -37,9 +37,7 @@ pub(crate) fn has_header(bytes: &[u8]) -> bool
     ensures { result ≡ has_header bytes.now }
 {
     match whole_length(bytes) {
-        Some(text) => {
-            digest_of(&bytes[1..text + 13]).as_slice() == &bytes[text + 13..text + 45]
-        }
+        Some(text) => { digest_of(&bytes[1..text + 13]).as_slice() == &bytes[text + 13..text + 45] }
         None => false,
     }
 }

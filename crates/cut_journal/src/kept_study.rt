@@ -11,11 +11,10 @@ ghost use Rattle.cut_journal.specs.inside.Opening.{IsReadFault};
 ghost use Rattle.cut_journal.specs.inside.Steps.{Finds, IsChecked};
 ghost use Rattle.cut_journal.specs.inside.Places.{gate_place};
 
-use crate::JournalFault;
 use crate::first_look::look_first;
 use crate::format::{FileHeader, digest_of};
-use crate::layout;
 use crate::slips::{BegunFile, Slips, read_slips};
+use crate::{JournalFault, layout};
 use cut_disks::{Disk, DiskFault};
 use std::alloc::Global;
 
