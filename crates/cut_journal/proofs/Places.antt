@@ -1,7 +1,7 @@
 -- What is read from a slip's gate on, by the places of the gates.
-use Rattle.std.proofs.Common.{◌≡◌, ◌∙◌, ◌≤◌, ◌<◌, ◌+◌, ◌==◌, ◌&&◌, ◌⊎◌, inl, inr, ℕ, zero, suc, Bool, true, false}
-use Rattle.std.proofs.Common.{not, cond, List, [], ◌∷◌, Result, Ok, Err, length, map, drop, slice_index}
-use Rattle.std.proofs.Common.{nat_lt, refl, sym, ap, subst, arith, add-zero}
+use Rattle.std.proofs.Common.{◌≡◌, ◌∙◌, ◌≤◌, ◌<◌, ◌+◌, ◌⊎◌, inl, inr, ℕ, zero, suc, Bool, true, false}
+use Rattle.std.proofs.Common.{not, cond, List, [], ◌∷◌, Result, Ok, Err, length, map, drop}
+use Rattle.std.proofs.Common.{refl, sym, ap, subst, arith, add-zero}
 use Rattle.std.specs.List.{range_with_len}
 use Rattle.std.proofs.lemmas.List.{get_or-drop, drop-drop, length-drop}
 use Rattle.cut_plan.specs.Failing.{version_of}
@@ -9,8 +9,8 @@ use Rattle.cut_plan.specs.Values.{Values}
 use Rattle.cut_ledger.specs.declared.slip.Slip.{Slip}
 use Rattle.cut_journal.specs.declared.fault.JournalFault.{JournalFault}
 use Rattle.cut_journal.specs.declared.fault.JournalFault.TheVariants.{NoStudy, Damaged}
-use Rattle.cut_journal.specs.File.{open_gate, slip_length}
-use Rattle.cut_journal.specs.Reading.{body_in, is_slip, slip_in, then_slips, slips_in}
+use Rattle.cut_journal.specs.File.{slip_length}
+use Rattle.cut_journal.specs.Reading.{body_in, slip_in, then_slips, slips_in}
 use Rattle.cut_journal.specs.inside.Places.{gate_place, is_open, body_at, has_slip, is_whole, opens}
 use Rattle.cut_journal.proofs.Gates.{gate_next}
 

@@ -1,7 +1,7 @@
 -- How a reading of slips goes on from one of their gates.
-use Rattle.std.proofs.Common.{◌≡◌, ◌∙◌, ◌<◌, ◌≤◌, ◌+◌, ◌-◌, ℕ, suc, true, false, List, [], Result, Ok, Err, length, drop}
+use Rattle.std.proofs.Common.{◌≡◌, ◌∙◌, ◌<◌, ◌+◌, ◌-◌, ℕ, suc, true, List, [], Result, Ok, Err, length, drop}
 use Rattle.std.proofs.Common.{sym, ap, arith}
-use Rattle.std.specs.Prelude.{Option, Some, None, cond}
+use Rattle.std.specs.Prelude.{Some, None}
 use Rattle.std.proofs.lemmas.Bool.Decides.{nat_tests}
 use Rattle.std.proofs.lemmas.List.{drop-drop, length-drop}
 use Rattle.cut_plan.specs.Canonical.{canonical_text}
@@ -9,11 +9,10 @@ use Rattle.cut_plan.specs.Failing.{version_of}
 use Rattle.cut_plan.specs.Values.{Values}
 use Rattle.cut_ledger.specs.declared.slip.Slip.{Slip}
 use Rattle.cut_journal.specs.declared.fault.JournalFault.{JournalFault}
-use Rattle.cut_journal.specs.declared.fault.JournalFault.TheVariants.{Damaged}
-use Rattle.cut_journal.specs.File.{numbers_length, slip_length}
-use Rattle.cut_journal.specs.Reading.{body_in, is_slip, reading, slip_in, slips_in, slips_reading, then_slips}
+use Rattle.cut_journal.specs.File.{slip_length}
+use Rattle.cut_journal.specs.Reading.{reading, slips_in, slips_reading, then_slips}
 use Rattle.cut_journal.specs.Unread.{Unread, IsReadNext}
-use Rattle.cut_journal.specs.inside.Places.{gate_place, has_slip, opens}
+use Rattle.cut_journal.specs.inside.Places.{gate_place, has_slip}
 use Rattle.cut_journal.specs.inside.Steps.{IsOfPlan, IsStep}
 use Rattle.cut_journal.proofs.Gates.{gate_far, gate_first, gate_next, nine_numbers}
 use Rattle.cut_journal.proofs.Places.{closed_in, damaged_in, whole_in}
@@ -105,23 +104,3 @@ reads_fault v bytes n at fault stands step =
     opened v bytes n at (Err fault) stands
     (damaged_in v (length bytes - (n + 1)) (n + 1) (drop at bytes) step.0 step.1
     ∙ ap (λ (f : JournalFault). Err f) (sym step.2))
-
--- ---- the first slip of what is left
-
-pub slip_found : (v : Values) (rest body : List ℕ) (n : ℕ) (found : Option Slip) → n
-    ≡ slip_length (version_of v.failing) → n < length rest → body ≡ body_in v rest → found
-    ≡ cond (is_slip v body) (Some (slip_in (version_of v.failing) body)) None → (slip : Slip) → found ≡ Some slip
-    → (has_slip v rest ≡ true) × (slip ≡ slip_in (version_of v.failing) (body_in v rest))
-slip_found v rest body n found size long read reported slip is =
-    grind (arith, nat_tests)
-
-pub slip_lost : (v : Values) (rest body : List ℕ) (found : Option Slip) → body ≡ body_in v rest → found
-    ≡ cond (is_slip v body) (Some (slip_in (version_of v.failing) body)) None → found ≡ None
-    → has_slip v rest ≡ false
-slip_lost v rest body found read reported is =
-    grind arith
-
-pub slip_short : (v : Values) (rest : List ℕ) → length rest ≤ slip_length (version_of v.failing)
-    → has_slip v rest ≡ false
-slip_short v rest short =
-    grind (arith, nat_tests)

@@ -72,7 +72,6 @@ impl<'a> KeptSlips<'a> {
 }
 
 /// The slip after the gate with which bytes begin, if that is open. The slip has this number.
-#[tactic(auto, using(crate::proofs::Unread::slip_found, crate::proofs::Unread::slip_lost, crate::proofs::Unread::slip_short))]
 fn first_slip(study: &FileHeader, rest: &[u8], number: u64) -> Result<Option<Slip>, JournalFault>
     requires { 0 < length rest.now }
     ensures { IsStep result study.now number rest.now }
@@ -91,7 +90,6 @@ fn first_slip(study: &FileHeader, rest: &[u8], number: u64) -> Result<Option<Sli
 }
 
 /// Looks whether bytes begin as the file of a study does, and says why not.
-#[tactic(auto, using(crate::proofs::Readings::none_read, crate::proofs::Readings::damaged_read, crate::proofs::Readings::short_other, crate::proofs::Readings::other_read, crate::proofs::Readings::version_read, crate::proofs::Gates::gate_first))]
 fn check_header(study: &FileHeader, bytes: &[u8]) -> Result<(), JournalFault>
     ensures checked { OnOk result (IsOfPlan study.now bytes.now) }
     ensures err { IfErr result (λ fault. reading study.now bytes.now ≡ Err fault) }

@@ -1,6 +1,6 @@
 -- What a tally says of slips when one more is added.
 use Rattle.std.proofs.Common.{◌≡◌, ◌∙◌, ℕ, ◌+◌, ◌-◌, ◌<◌, ◌≤◌, ◌^◌, ◌||◌, Bool, false, List, [], ◌∷◌, ◌++◌}
-use Rattle.std.proofs.Common.{length, replicate, take, get_or, refl, sym, ap, arith, length-append}
+use Rattle.std.proofs.Common.{length, replicate, take, get_or, sym, ap, arith, length-append}
 use Rattle.std.specs.Prelude.{Option, Some, None}
 use Rattle.std.proofs.Math.Bool.{or-false}
 use Rattle.std.proofs.Math.ListN.{get_or-append}
@@ -14,11 +14,11 @@ use Rattle.cut_lists.proofs.Intervals.{within_is}
 use Rattle.cut_lists.proofs.Ranges.{All-range_with_len, none_passing}
 use Rattle.cut_lists.proofs.Ranks.{count_by_none}
 use Rattle.range_set.specs.Held as held
-use Rattle.cut_ledger.specs.Tally.{Tally, HasAdded, HasJudged, IsTallyOver, has_trial}
+use Rattle.cut_ledger.specs.Tally.{Tally, HasAdded, HasJudged, IsTallyOver}
 use Rattle.range_set.specs.declared.span.Span.{Span}
 use Rattle.cut_ledger.specs.inside.Kept.{CanBeAdded, HoldsExactly, span_of}
 use Rattle.cut_ledger.proofs.Words.{AreGood, AreGoodUpTo, IsFirstBad, IsGood, IsPlan, Piece, Slip, Totals, Values}
-use Rattle.cut_ledger.proofs.Words.{all_trials, count_by, is_in, is_in_base, trial_count}
+use Rattle.cut_ledger.proofs.Words.{all_trials, count_by, is_in, trial_count}
 use Rattle.cut_ledger.proofs.AddLemmas.{in_base_more}
 use Rattle.cut_ledger.proofs.CellLemmas.{IsMore, in_piece, more_is, piece_facts}
 use Rattle.cut_ledger.proofs.SlipLemmas.{good_more}

@@ -11,7 +11,7 @@ use Rattle.cut_journal.specs.declared.fault.JournalFault.TheVariants as journal
 use Rattle.cut_journal.specs.Reading.{reading}
 use Rattle.cut_journal.specs.Unread.{Unread}
 use Rattle.cut_status.specs.declared.fault.StatusFault.{StatusFault}
-use Rattle.cut_status.specs.declared.fault.StatusFault.TheVariants.{Memory, NoStudy, Damaged, BadSlip}
+use Rattle.cut_status.specs.declared.fault.StatusFault.TheVariants.{Memory, Damaged, BadSlip}
 
 -- why no plan is found by its text: memory ran out, or it is the canonical text of no accepted plan
 abbrev pub IsOfNoPlan : List ℕ → StatusFault → Type 0
