@@ -64,14 +64,14 @@ where
     run_from(rt, alloc, wire, Study::new(work, disk, source))
 }
 
-/// A study: how it is worked on, the disk that keeps it, if there is one, and if its plan is read from.
+/// A study: how it is worked on, the disk that keeps it, if there is one, and where its plan is read from.
 #[derive(Drop)]
 pub struct Study<'a, G, D, F> {
     /// How it is worked on.
     pub work: Work<'a, G>,
     /// The disk that keeps it.
     pub disk: Option<D>,
-    /// If its plan is read from.
+    /// Where its plan is read from.
     pub source: PlanSource<'a, F>,
 }
 

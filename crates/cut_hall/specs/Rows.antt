@@ -11,7 +11,7 @@ CanNotGiveAgain other = ⊥
 
 -- ---- how many calls that is
 
--- waited for a line: one if it came
+-- by waiting for a line: one if it came
 abbrev pub rows_of : {T E : Type 0} → Result T E → ℕ
 rows_of (Ok given) = 1
 rows_of (Err fault) = 0

@@ -276,7 +276,7 @@ impl<D: Disk + Drop, M: CallLedger, K: CallLedger> Hall<D, M, K> {
         unreachable!()
     }
 
-    /// If a slot's calls are counted: in the hall's accounts, under their lock.
+    /// Where a slot's calls are counted: in the hall's accounts, under their lock.
     pub(crate) fn counter<'a, R: Wait>(&'a self, rt: &'a R) -> LockedAccounts<'a, M, K, R> {
         LockedAccounts {
             rt,

@@ -26,7 +26,7 @@ enum Cause {
     Disk,
 }
 
-/// What keeps the second line from coming, after a pause of this many milliseconds; and if the study's disk comes from.
+/// What keeps the second line from coming, after a pause of this many milliseconds; and where the study's disk comes from.
 #[derive(Clone, Copy)]
 struct Hindrance {
     cause: Cause,

@@ -79,7 +79,7 @@ struct DiskShare<'a, G, D, F> {
     work: ShareWork<'a, G>,
     /// The disk that keeps it.
     disk: D,
-    /// If its plan is read from.
+    /// Where its plan is read from.
     source: PlanSource<'a, F>,
 }
 

@@ -274,7 +274,7 @@ where
     }
 }
 
-/// Closes a hall with the passes of its workers. Where passes are missing, it was if memory runs out.
+/// Closes a hall with the passes of its workers. Passes are missing only if memory ran out.
 fn closed<D, M, K>(
     alloc: Global,
     hall: Hall<D, M, K>,

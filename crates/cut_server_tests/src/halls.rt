@@ -32,7 +32,7 @@ pub(crate) struct House {
     pub pieces: u64,
 }
 
-/// A hall for a session, the text of the plan whose study is submitted to it before, and if its disk comes from.
+/// A hall for a session, the text of the plan whose study is submitted to it before, and where its disk comes from.
 #[derive(Drop)]
 struct Scene<'a, S> {
     house: House,

@@ -191,7 +191,7 @@ abbrev pub HasPlan : {D : Type 0} → Option (BookValue D) → Values → Type 0
 HasPlan None v = ⊥
 HasPlan (Some b) v = b.state.ledger.plan ≡ v
 
--- noted as lost: one if it was not refused
+-- by noting a piece as lost: one if that was not refused
 abbrev pub losses_of : {T E : Type 0} → Result T E → ℕ
 losses_of (Ok done) = 1
 losses_of (Err fault) = 0

@@ -3,7 +3,7 @@
 //!
 //! A [`Slot`] has the book of one study, of which it notes how many calls it had and which lines were given. A thread
 //! has a [`Pass`]: it draws a piece in a slot and hands its result in, and its trials are counted on the board. Nothing
-//! here waits or takes a lock: if a call is counted stands in a [`CallCounter`], which a hall gives its slots.
+//! here waits or takes a lock: calls are counted by a [`CallCounter`], which a hall gives its slots.
 //!
 //! Two ledgers count the calls of all books ([`Accounts`]): in the one each pass has a share, in the other each slot.
 //! When a hall is closed their sums are compared, and for each slot the trials that were counted on the board with

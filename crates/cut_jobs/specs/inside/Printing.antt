@@ -21,7 +21,7 @@ PrintsFileIf true files ended old new =
     × PrintsRefused (map (λ s. s.now) files) refused old new)
 PrintsFileIf false files ended old new = new ≡ old
 
--- the one that is named there, if that is asked for, is the one that is refused if the join ended
+-- the one that is named there, if that is asked for, is the one that is refused at the end of the join
 abbrev pub TellsFileIf : Bool → List (List ℕ) → (Option ℕ → Type 0) → WireLog → WireLog → Type 0
 TellsFileIf true paths ends old new = (refused : Option ℕ) × (ends refused × PrintsRefused paths refused old new)
 TellsFileIf false paths ends old new = ⊤
