@@ -10,12 +10,7 @@ from .paths import PROGRAM
 
 # The packages of folders that have another name, and the modules of commands that have.
 PACKAGES = {"docs": "documents", "tests": "testing"}
-MODULES = {
-    "docs/try": "tools.documents.pages",
-    "bench/run": "tools.bench.costs",
-    "tools/study": "study.cli",
-    ".ci/minutes": "tools.minutes",
-}
+MODULES = {"docs/try": "tools.documents.pages", "bench/run": "tools.bench.costs", "tools/study": "study.cli"}
 
 
 def existing(program: str) -> Path:
