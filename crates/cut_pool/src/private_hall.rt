@@ -186,7 +186,10 @@ where
 }
 
 /// A hall as the threads of workers share it.
-trait Workplace<M: CallLedger> {
+trait Workplace {
+    /// The ledger of the calls that its passes make.
+    type Made: CallLedger + Send + Sync;
+
     /// Which hall it is.
     ghost id_of: { Self → TableId };
 
@@ -194,13 +197,26 @@ trait Workplace<M: CallLedger> {
     ghost has_slot: { Self → Type 0 };
 
     /// Works on the pieces of the first study until none are left to be drawn.
-    fn work_off_first<G: Gate, R: Wait>(&self, rt: &R, alloc: Global, pass: &mut Pass<M>, gate: &G)
+    fn work_off_first<G: Gate, R: Wait>(
+        &self,
+        rt: &R,
+        alloc: Global,
+        pass: &mut Pass<Self::Made>,
+        gate: &G,
+    )
         requires own { pass.old.hall ≡ id_of self.now }
         requires slot { has_slot self.now }
         ensures { pass.new.hall ≡ pass.old.hall };
 }
 
-impl<D: Disk + Drop, M: CallLedger, K: CallLedger> Workplace<M> for Hall<D, M, K> {
+impl<D, M, K> Workplace for Hall<D, M, K>
+where
+    D: Disk + Drop,
+    M: CallLedger + Send + Sync,
+    K: CallLedger,
+{
+    type Made = M;
+
     ghost id_of = { λ h. h.id };
 
     ghost has_slot = { λ h. 0 < h.slots };
@@ -218,15 +234,14 @@ impl<D: Disk + Drop, M: CallLedger, K: CallLedger> Workplace<M> for Hall<D, M, K
 
 /// Lets each pass work in a thread of its own, and writes in this one meanwhile. If no thread can be made, they find
 /// nothing left to do once it has written.
-fn work_beside<S, M, G, R, F>(
+fn work_beside<S, G, R, F>(
     tools: Env<'_, R, G>,
     hall: &S,
-    passes: &mut Vec<Pass<M>>,
+    passes: &mut Vec<Pass<S::Made>>,
     write: &mut F,
 ) -> Result<u64, EmitFault>
 where
-    S: Workplace<M> + Sync,
-    M: CallLedger + Send + Sync,
+    S: Workplace + Sync,
     G: Gate + Sync,
     R: Threads + Wait + Sync,
     F: FnMut() -> Result<u64, EmitFault>,
@@ -247,10 +262,15 @@ where
 
 /// Lets each pass work on the pieces of the first study, in a thread of its own where one can be made, until none
 /// are left to be drawn. Where memory is refused the passes are gone, and the thread that writes does their work.
-fn work_off_all<S, M, G, R>(rt: &R, alloc: Global, hall: &S, gate: &G, passes: &mut Vec<Pass<M>>)
+fn work_off_all<S, G, R>(
+    rt: &R,
+    alloc: Global,
+    hall: &S,
+    gate: &G,
+    passes: &mut Vec<Pass<S::Made>>,
+)
 where
-    S: Workplace<M> + Sync,
-    M: CallLedger + Send + Sync,
+    S: Workplace + Sync,
     G: Gate + Sync,
     R: Threads + Wait + Sync,
     requires slot { S.has_slot hall.now }
@@ -261,7 +281,7 @@ where
     let worked = thread::map_vec(
         rt,
         waiting,
-        &|mut pass: Pass<M>| -> Pass<M>
+        &|mut pass: Pass<S::Made>| -> Pass<S::Made>
             requires { S.has_slot hall.now × (pass.hall ≡ S.id_of hall.now) }
             ensures { result.hall ≡ S.id_of hall.entry.now }
         {

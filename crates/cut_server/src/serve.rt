@@ -7,7 +7,7 @@ ghost use Rattle.cut_slots.specs.Report.{IsAcceptedCount, IsEndOf, accepted_reco
 
 use crate::Capacity;
 use crate::shelf::FolderShelf;
-use crate::socket::{Socket, SocketWire};
+use crate::socket::Socket;
 use crate::threads::{Listener, ServerEnv, run_threads};
 use cut_book::Shelf;
 use cut_commands::{CliFault, FaultText};
@@ -31,7 +31,7 @@ const PIECE_SIZE: u32 = 16;
 ///
 /// If a connection does not come, or a thread or memory is refused, no further one is taken, the work is ended, and the
 /// sessions that had begun go on until their clients leave. The listener comes back.
-pub fn serve_sessions<D, S, L, W, R>(
+pub fn serve_sessions<D, S, L, R>(
     rt: &R,
     alloc: Global,
     listener: L,
@@ -41,8 +41,7 @@ pub fn serve_sessions<D, S, L, W, R>(
 where
     D: Disk + Drop + Send,
     S: Shelf<D> + Sync,
-    L: Listener<W> + Drop,
-    W: Wire + Send + Drop,
+    L: Listener + Drop,
     R: Threads + Wait + Sync,
     ensures slots { IfOk result.1 (λ report. length report ≡ capacity.studies) }
     ensures why { IfErr result.1 IsOfServing }
@@ -51,11 +50,11 @@ where
     let made = Blank::new(u64::from(capacity.workers) + u64::from(capacity.sessions));
     let kept = Blank::new(u64::from(capacity.studies));
     let blanks = Blanks { made, kept };
-    serve_by::<D, Brand, Brand, S, L, W, R>(rt, alloc, listener, shelf, capacity, blanks)
+    serve_by::<D, Brand, Brand, S, L, R>(rt, alloc, listener, shelf, capacity, blanks)
 }
 
 /// The same, with the blanks of the two ledgers of calls.
-fn serve_by<D, M, K, S, L, W, R>(
+fn serve_by<D, M, K, S, L, R>(
     rt: &R,
     alloc: Global,
     listener: L,
@@ -68,8 +67,7 @@ where
     M: CallLedger + Send + Sync,
     K: CallLedger + Send + Sync,
     S: Shelf<D> + Sync,
-    L: Listener<W> + Drop,
-    W: Wire + Send + Drop,
+    L: Listener + Drop,
     R: Threads + Wait + Sync,
     requires made { (blanks.made.name ≡ M.name) × (blanks.made.parts ≡ M.parts)
         × (M.all ≡ M.parts) × (M.all ≡ capacity.workers + capacity.sessions) }
@@ -124,7 +122,7 @@ where
 
 /// Serves sessions, and writes how many trials all studies accepted: `accepted`, a blank, the number in decimal
 /// and a line feed. At a fault of the serving nothing is written.
-pub fn serve_io<D, S, L, C, W, R>(
+pub fn serve_io<D, S, L, W, R>(
     rt: &R,
     alloc: Global,
     listener: L,
@@ -135,8 +133,7 @@ pub fn serve_io<D, S, L, C, W, R>(
 where
     D: Disk + Drop + Send,
     S: Shelf<D> + Sync,
-    L: Listener<C> + Drop,
-    C: Wire + Send + Drop,
+    L: Listener + Drop,
     W: Wire,
     R: Threads + Wait + Sync,
     ensures writes { WritesReport capacity.studies result.1 (W.log wire.old) (W.log wire.new) }
@@ -204,7 +201,7 @@ where
         return Err(CliFault::Socket);
     };
     let shelf = FolderShelf { host, folder };
-    let (mut socket, served) = serve_io::<FileDisk, FolderShelf, Socket, SocketWire, W, R>(
+    let (mut socket, served) = serve_io::<FileDisk, FolderShelf, Socket, W, R>(
         rt,
         host.alloc(),
         socket,

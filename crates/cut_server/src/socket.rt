@@ -73,7 +73,9 @@ impl<H: Files + Net + Clock> Socket<'_, H> {
     }
 }
 
-impl<H: Files + Net + Clock> Listener<SocketWire> for Socket<'_, H> {
+impl<H: Files + Net + Clock> Listener for Socket<'_, H> {
+    type Connection = SocketWire;
+
     ghost calls = { λ d. record { given = d.given; failed = d.failures } };
 
     fn accept(&mut self) -> Result<SocketWire, ListenFault> {

@@ -23,12 +23,15 @@ pub struct ListenFault;
 
 /// What a server's connections come from. It counts the connections that it gave, and its calls that failed; at
 /// 2^64 - 1 a count stays.
-pub trait Listener<W> {
+pub trait Listener {
+    /// The wire of a client.
+    type Connection: Wire + Send + Drop;
+
     /// How many connections it gave, and how many of its calls failed.
     ghost calls: { Self → Calls };
 
     /// Waits for the next connection.
-    fn accept(&mut self) -> Result<W, ListenFault>
+    fn accept(&mut self) -> Result<Self::Connection, ListenFault>
         ensures { calls self.new ≡ called result (calls self.old) };
 
     /// Refuses the clients that wait for a connection, and all later ones.
@@ -48,7 +51,13 @@ impl<M: CallLedger> Promise<Pass<M>> for SameHall<M> {
 type Attendance<M> = PromisedHandle<Pass<M>, SameHall<M>>;
 
 /// A hall as the threads of a server share it.
-trait ServerHall<D: Disk, M: CallLedger> {
+pub(crate) trait ServerHall {
+    /// What its studies are kept on.
+    type Disk: Disk + Send;
+
+    /// The ledger of the calls that its passes make.
+    type Made: CallLedger + Send + Sync;
+
     /// Which hall it is.
     ghost id_of: { Self → TableId };
 
@@ -56,7 +65,7 @@ trait ServerHall<D: Disk, M: CallLedger> {
     ghost is_trusted: { Self → Bool };
 
     /// Works on all studies until the work is ended.
-    fn work_with<R: Wait>(&self, rt: &R, alloc: Global, pass: &mut Pass<M>)
+    fn work_with<R: Wait>(&self, rt: &R, alloc: Global, pass: &mut Pass<Self::Made>)
         requires { pass.old.hall ≡ id_of self.now }
         ensures { pass.new.hall ≡ pass.old.hall };
 
@@ -65,12 +74,12 @@ trait ServerHall<D: Disk, M: CallLedger> {
         &self,
         rt: &R,
         alloc: Global,
-        pass: &mut Pass<M>,
+        pass: &mut Pass<Self::Made>,
         shelf: &S,
         wire: &mut W,
     )
     where
-        S: Shelf<D>,
+        S: Shelf<Self::Disk>,
         W: Wire,
         R: Wait,
         requires own { pass.old.hall ≡ id_of self.now }
@@ -81,7 +90,16 @@ trait ServerHall<D: Disk, M: CallLedger> {
     fn end_work<R: Wait>(&self, rt: &R);
 }
 
-impl<D: Disk + Drop, M: CallLedger, K: CallLedger> ServerHall<D, M> for Hall<D, M, K> {
+impl<D, M, K> ServerHall for Hall<D, M, K>
+where
+    D: Disk + Drop + Send,
+    M: CallLedger + Send + Sync,
+    K: CallLedger,
+{
+    type Disk = D;
+
+    type Made = M;
+
     ghost id_of = { λ h. h.id };
 
     ghost is_trusted = { λ h. h.is_trusted };
@@ -129,19 +147,16 @@ pub(crate) struct ServerEnv<'a, H, S, R> {
 
 /// Lets this many passes work, each in a thread of its own, and serves a connection with each of the others. Once
 /// the sessions have ended the work is ended, and all passes come back.
-pub(crate) fn run_threads<D, M, H, S, L, W, R>(
+pub(crate) fn run_threads<H, S, L, R>(
     site: &ServerEnv<'_, H, S, R>,
     listener: L,
-    passes: Vec<Pass<M>>,
+    passes: Vec<Pass<H::Made>>,
     workers: u32,
-) -> (L, Result<Vec<Pass<M>>, CliFault>)
+) -> (L, Result<Vec<Pass<H::Made>>, CliFault>)
 where
-    D: Disk + Send,
-    M: CallLedger + Send + Sync,
-    H: ServerHall<D, M> + Sync,
-    S: Shelf<D> + Sync,
-    L: Listener<W> + Drop,
-    W: Wire + Send + Drop,
+    H: ServerHall + Sync,
+    S: Shelf<H::Disk> + Sync,
+    L: Listener + Drop,
     R: Threads + Wait + Sync,
     requires own { All (λ p. p.hall ≡ H.id_of site.now.hall.now) passes.items }
     requires trusted { H.is_trusted site.now.hall.now ≡ true → S.is_true site.now.shelf.now ≡ true }
@@ -155,7 +170,7 @@ where
     thread::scope(
         thread::scope_env(),
         rt,
-        |scope| -> (L, Result<Vec<Pass<M>>, CliFault>)
+        |scope| -> (L, Result<Vec<Pass<H::Made>>, CliFault>)
             requires own { All (λ p. p.hall ≡ H.id_of site.now.hall.now) passes.items }
             requires trusted { H.is_trusted site.now.hall.now ≡ true → S.is_true site.now.shelf.now ≡ true }
             requires few { workers ≤ length passes.items }
@@ -183,20 +198,18 @@ struct RunningThreads<M: CallLedger> {
 }
 
 /// Starts the workers and the sessions, turns away who comes later, and waits until all sessions have ended.
-fn run_in_scope<'s, E, D, M, H, S, L, W, R>(
+fn run_in_scope<'s, E, H, S, L, R>(
     scope: &Scope<'s, E>,
     site: &ServerEnv<'s, H, S, R>,
     listener: &mut L,
-    passes: Vec<Pass<M>>,
+    passes: Vec<Pass<H::Made>>,
     workers: u32,
-) -> Result<EndedThreads<M>, CliFault>
+) -> Result<EndedThreads<H::Made>, CliFault>
 where
-    D: Disk + Send + 's,
-    M: CallLedger + Send + Sync + 's,
-    H: ServerHall<D, M> + Sync,
-    S: Shelf<D> + Sync,
-    L: Listener<W>,
-    W: Wire + Send + Drop + 's,
+    H: ServerHall + Sync,
+    S: Shelf<H::Disk> + Sync,
+    L: Listener,
+    L::Connection: 's,
     R: Threads + Wait + Sync,
     requires own { All (λ p. p.hall ≡ H.id_of site.now.hall.now) passes.items }
     requires trusted { H.is_trusted site.now.hall.now ≡ true → S.is_true site.now.shelf.now ≡ true }
@@ -217,20 +230,18 @@ where
 }
 
 /// Starts the workers, and a session with each of the passes that are left.
-fn start_all<'s, E, D, M, H, S, L, W, R>(
+fn start_all<'s, E, H, S, L, R>(
     scope: &Scope<'s, E>,
     site: &ServerEnv<'s, H, S, R>,
     listener: &mut L,
-    passes: Vec<Pass<M>>,
+    passes: Vec<Pass<H::Made>>,
     workers: u32,
-) -> Result<RunningThreads<M>, CliFault>
+) -> Result<RunningThreads<H::Made>, CliFault>
 where
-    D: Disk + Send + 's,
-    M: CallLedger + Send + Sync + 's,
-    H: ServerHall<D, M> + Sync,
-    S: Shelf<D> + Sync,
-    L: Listener<W>,
-    W: Wire + Send + Drop + 's,
+    H: ServerHall + Sync,
+    S: Shelf<H::Disk> + Sync,
+    L: Listener,
+    L::Connection: 's,
     R: Threads + Wait + Sync,
     requires own { All (λ p. p.hall ≡ H.id_of site.now.hall.now) passes.items }
     requires trusted { H.is_trusted site.now.hall.now ≡ true → S.is_true site.now.shelf.now ≡ true }
@@ -250,16 +261,14 @@ where
 }
 
 /// Starts this many workers, each with one of the passes.
-fn start_workers<'s, E, D, M, H, S, R>(
+fn start_workers<'s, E, H, S, R>(
     scope: &Scope<'s, E>,
     site: &ServerEnv<'s, H, S, R>,
-    passes: &mut Vec<Pass<M>>,
+    passes: &mut Vec<Pass<H::Made>>,
     count: u32,
-) -> Result<Vec<Attendance<M>>, CliFault>
+) -> Result<Vec<Attendance<H::Made>>, CliFault>
 where
-    D: Disk + Send + 's,
-    M: CallLedger + Send + Sync + 's,
-    H: ServerHall<D, M> + Sync,
+    H: ServerHall + Sync,
     R: Threads + Wait + Sync,
     requires own { All (λ p. p.hall ≡ H.id_of site.now.hall.now) passes.old.items }
     requires few { count ≤ length passes.old.items }
@@ -280,7 +289,7 @@ where
         let promise = SameHall(Snapshot::of(&pass));
         let worker = scope.spawn_with(
             promise,
-            move || -> Pass<M>
+            move || -> Pass<H::Made>
                 requires { pass.hall ≡ H.id_of hall.now }
                 ensures { result.hall ≡ pass.hall }
             {
@@ -297,19 +306,17 @@ where
 }
 
 /// Starts a session with each of the passes, as the connections come.
-fn start_sessions<'s, E, D, M, H, S, L, W, R>(
+fn start_sessions<'s, E, H, S, L, R>(
     scope: &Scope<'s, E>,
     site: &ServerEnv<'s, H, S, R>,
     listener: &mut L,
-    passes: Vec<Pass<M>>,
-) -> Result<Vec<Attendance<M>>, CliFault>
+    passes: Vec<Pass<H::Made>>,
+) -> Result<Vec<Attendance<H::Made>>, CliFault>
 where
-    D: Disk + Send + 's,
-    M: CallLedger + Send + Sync + 's,
-    H: ServerHall<D, M> + Sync,
-    S: Shelf<D> + Sync,
-    L: Listener<W>,
-    W: Wire + Send + Drop + 's,
+    H: ServerHall + Sync,
+    S: Shelf<H::Disk> + Sync,
+    L: Listener,
+    L::Connection: 's,
     R: Threads + Wait + Sync,
     requires own { All (λ p. p.hall ≡ H.id_of site.now.hall.now) passes.items }
     requires trusted { H.is_trusted site.now.hall.now ≡ true → S.is_true site.now.shelf.now ≡ true }
@@ -330,7 +337,7 @@ where
         let promise = SameHall(Snapshot::of(&pass));
         let session = scope.spawn_with(
             promise,
-            move || -> Pass<M>
+            move || -> Pass<H::Made>
                 requires own { pass.hall ≡ H.id_of hall.now }
                 requires trusted { H.is_trusted hall.now ≡ true → S.is_true shelf.now ≡ true }
                 ensures { result.hall ≡ pass.hall }

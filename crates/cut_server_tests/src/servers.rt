@@ -273,7 +273,9 @@ struct Once {
     given: Failures,
 }
 
-impl Listener<MemoryWire> for Once {
+impl Listener for Once {
+    type Connection = MemoryWire;
+
     ghost calls = { λ l. record { given = l.given; failed = l.failures } };
 
     fn accept(&mut self) -> Result<MemoryWire, ListenFault> {

@@ -130,6 +130,6 @@ fn a_client_waits_for_a_free_descriptor(rt: HostRuntime) -> Result<(), Fail> {
     );
     assert!(rt; accepted);
     drop(client);
-    Listener::<cut_server::SocketWire>::close(&mut socket);
+    Listener::close(&mut socket);
     Ok(())
 }
