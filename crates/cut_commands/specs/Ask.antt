@@ -1,15 +1,15 @@
--- What asking a server for the table of a plan leaves, on the program's wire and on the server's.
-use Rattle.std.specs.Prelude.{◌≡◌, ◌≤◌, ℕ, Bool, true, false, List, length, Option, Some, None, Result, Ok, Err, ⊤}
+-- What asking a server for the table of a plan leaves: on the program's wire, on the server's, and of the server's socket.
+use Rattle.std.specs.Prelude.{◌≡◌, ◌⊎◌, ℕ, List, Option, Result, Ok, Err, ⊤}
 use Rattle.cut_files.specs.Place.{Place}
-use Rattle.cut_commands.specs.declared.input.TheConstants.{TEXT_LIMIT}
-use Rattle.cut_plan.specs.declared.limits.TheConstants.{LONGEST_TEXT}
-use Rattle.cut_wires.specs.Log.{WireLog, wrote, write_failed}
+use Rattle.cut_wires.specs.Log.{WireLog}
+use Rattle.cut_sockets.specs.Peer.{Peer, ConnectsAs, MayNotConnect, hung_up}
 use Rattle.cut_messages.specs.Asking.{Asks}
 use Rattle.cut_messages.specs.declared.fault.AskFault.{AskFault}
-use Rattle.cut_messages.specs.declared.fault.AskFault.TheVariants as ask
-use Rattle.cut_commands.specs.Run.{GivesTextFrom, IsPlanText, read_on}
+use Rattle.cut_commands.specs.Run.{GivesTextFrom}
 use Rattle.cut_commands.specs.declared.fault.CliFault.{CliFault}
 use Rattle.cut_commands.specs.declared.fault.CliFault.TheVariants.{Socket, Asked}
+
+-- ---- over the wire of a server
 
 -- a text was read, its table was asked for over a server's wire, and its lines were written
 pub record AsksText (plan : Option Place) (result : Result ⊤ AskFault) (old new server_old server_new : WireLog)
@@ -27,37 +27,22 @@ AsksFrom plan (Err (Asked fault)) old new server_old server_new = AsksText plan 
 AsksFrom plan (Err fault) old new server_old server_new =
     GivesTextFrom plan (Err fault) old new × (server_new ≡ server_old)
 
--- if it is read from the wire
-abbrev pub AsksFor : Result ⊤ CliFault → WireLog → WireLog → WireLog → WireLog → Type 0
-AsksFor result old new server_old server_new = AsksFrom None result old new server_old server_new
+-- ---- over a socket
 
--- ---- over a socket, of which nothing is known
+-- the peer of a socket was connected to, the table was asked for over its wire, and the wire was given back. Of a peer
+-- that is known this is its own wire, so what was written are the lines of what it replied. If nothing is known of the
+-- peer, it is some wire, and what was written are the lines of some answer
+pub record HasAsked (plan : Option Place) (before after : Peer) (old new : WireLog) (result : Result ⊤ CliFault)
+    : Type 0 where
+  pub server : WireLog
+  pub server_back : WireLog
+  pub connected : ConnectsAs server before
+  pub asked : AsksFrom plan result old new server server_back
+  pub left : after ≡ hung_up server_back before
 
--- a text was read, from the wire up to its end or not, or from a file, and then the wire was used so
-abbrev pub ReadsThen : Option Place → List ℕ → Bool → (WireLog → WireLog) → WireLog → WireLog → Type 0
-ReadsThen None text ended used old new = new ≡ used (read_on text ended old)
-ReadsThen (Some place) text ended used old new = IsPlanText place text × (new ≡ used old)
-
--- a text was read up to its end, which a plan may have, and some bytes were written
-abbrev pub HasConveyed : Option Place → WireLog → WireLog → Type 0
-HasConveyed plan old new =
-    (text : List ℕ) × (written : List ℕ) × (length text ≤ LONGEST_TEXT)
-    × ReadsThen plan text true (λ (l : WireLog). wrote l written) old new
-
--- what passed if an asking ended with a fault: the text was too long, and nothing was written; nor was it if the
--- request was not sent; else some bytes were, up to a write that failed, if one did
-abbrev pub ConveysPartly : Option Place → AskFault → WireLog → WireLog → Type 0
-ConveysPartly plan ask.PlanTooLong old new =
-    (text : List ℕ) × (length text ≡ TEXT_LIMIT) × ReadsThen plan text false (λ (l : WireLog). l) old new
-ConveysPartly plan ask.Request old new =
-    (text : List ℕ) × (length text ≤ LONGEST_TEXT) × ReadsThen plan text true (λ (l : WireLog). l) old new
-ConveysPartly plan ask.Output old new = (mid : WireLog) × HasConveyed plan old mid × (new ≡ write_failed mid)
-ConveysPartly plan fault old new = HasConveyed plan old new
-
--- how the command ends, by where the text is read from: if its socket was not connected to, nothing was read. What a
--- server said to it is not known, so that what was written are some bytes
-abbrev pub EndsAsk : Option Place → WireLog → WireLog → Result ⊤ CliFault → Type 0
-EndsAsk plan old new (Ok done) = HasConveyed plan old new
-EndsAsk plan old new (Err Socket) = new ≡ old
-EndsAsk plan old new (Err (Asked fault)) = ConveysPartly plan fault old new
-EndsAsk plan old new (Err fault) = GivesTextFrom plan (Err fault) old new
+-- how the command ends, by where the text is read from and by the peer of its socket, before and after: its table was
+-- asked for; or it was not connected to, and nothing was read or written
+abbrev pub EndsAsk : Option Place → Peer → Peer → WireLog → WireLog → Result ⊤ CliFault → Type 0
+EndsAsk plan before after old new result =
+    HasAsked plan before after old new result
+    ⊎ (MayNotConnect before × (result ≡ Err Socket) × (new ≡ old) × (after ≡ before))

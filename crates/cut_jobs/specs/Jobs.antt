@@ -1,4 +1,4 @@
--- What each job leaves in its files, on the program's wire and on its errors.
+-- What each job leaves in its files, of its sockets, on the program's wire and on its errors.
 use Rattle.std.specs.Prelude.{◌≡◌, ◌+◌, ◌++◌, ℕ, true, List, ◌∷◌, [], length, map, codes, Option, Some, None}
 use Rattle.std.specs.Prelude.{Result, ⊤}
 use Rattle.std.specs.Borrow.{Bor}
@@ -6,6 +6,7 @@ use Rattle.std.specs.Fmt.{decimal}
 use Rattle.cut_wires.specs.Log.{WireLog}
 use Rattle.cut_progress.specs.Printed.{HasPrinted}
 use Rattle.cut_files.specs.Place.{Place, StaysElsewhere, while_open}
+use Rattle.cut_sockets.specs.Peer.{KeepsOtherPeers}
 use Rattle.cut_machines.specs.JoinCommand.{EndsJoin, NamesRefusedFile}
 use Rattle.cut_share.specs.declared.share.Share as share
 use Rattle.cut_machines.specs.Share.{EndsShare}
@@ -20,6 +21,7 @@ use Rattle.cut_command_line.specs.declared.line.Job.{Job}
 use Rattle.cut_command_line.specs.declared.line.Job.TheVariants.{Run, Check, Explain, Canonical, Status, Serve}
 use Rattle.cut_command_line.specs.declared.line.Job.TheVariants.{Ask, Migrate, Share, Join}
 use Rattle.cut_commands.specs.declared.fault.CliFault.{CliFault}
+use Rattle.cut_jobs.specs.Paths.{Paths}
 use Rattle.cut_jobs.specs.Quoted.{quoted}
 use Rattle.cut_jobs.specs.Sending.{IsSent}
 
@@ -41,28 +43,38 @@ EndsShareOn file plan s before after old new result =
     EndsShare result s (plan_place (while_open file before) plan) (before file) (after file) old new
     × StaysElsewhere file before after
 
--- a job. What is not said to change at a path stays; the files of a server are the system's, of which nothing is known
-abbrev pub EndsJob : Job → (List ℕ → Place) → (List ℕ → Place) → WireLog → WireLog → Result ⊤ CliFault → Type 0
+-- a server was asked, at a socket, for the table of a plan
+abbrev pub EndsAskAt : List ℕ → Option (Bor (List ℕ)) → Paths → Paths → WireLog → WireLog → Result ⊤ CliFault → Type 0
+EndsAskAt socket plan before after old new result =
+    EndsAsk (plan_place before.places plan) (before.peers socket) (after.peers socket) old new result
+    × KeepsOtherPeers socket before.peers after.peers × (after.places ≡ before.places)
+
+-- a job. What is not said to change at a path stays; the files and the socket of a server are the system's, of which
+-- nothing is known
+abbrev pub EndsJob : Job → Paths → Paths → WireLog → WireLog → Result ⊤ CliFault → Type 0
 EndsJob (Run piece workers file progress plan) before after old new result =
-    EndsRun file plan before after old new result
+    EndsRun file plan before.places after.places old new result × (after.peers ≡ before.peers)
 EndsJob (Check plan) before after old new result =
-    EndsCommandFrom check_task (plan_place before plan) old new result × (after ≡ before)
+    EndsCommandFrom check_task (plan_place before.places plan) old new result × (after ≡ before)
 EndsJob (Explain plan) before after old new result =
-    EndsFrom Explains (plan_place before plan) old new result × (after ≡ before)
+    EndsFrom Explains (plan_place before.places plan) old new result × (after ≡ before)
 EndsJob (Canonical plan) before after old new result =
-    EndsCommandFrom canonical_task (plan_place before plan) old new result × (after ≡ before)
-EndsJob (Status file) before after old new result = EndsStatus (before file.now) old new result × (after ≡ before)
+    EndsCommandFrom canonical_task (plan_place before.places plan) old new result × (after ≡ before)
+EndsJob (Status file) before after old new result =
+    EndsStatus (before.places file.now) old new result × (after ≡ before)
 EndsJob (Serve socket workers sessions studies folder) before after old new result =
     EndsServing studies result old new × (after ≡ before)
-EndsJob (Ask socket plan) before after old new result =
-    EndsAsk (plan_place before plan) old new result × (after ≡ before)
+EndsJob (Ask socket plan) before after old new result = EndsAskAt socket.now plan before after old new result
 EndsJob (Migrate from to plan) before after old new result =
-    EndsMigrate from.now to.now plan before after old new result × StaysBeside from.now to.now before after
+    EndsMigrate from.now to.now plan before.places after.places old new result
+    × StaysBeside from.now to.now before.places after.places × (after.peers ≡ before.peers)
 EndsJob (Share index shares file piece workers progress plan) before after old new result =
     (s : share.Share) × (s.index ≡ index) × (s.shares ≡ shares) × (s.block_size ≡ piece)
-    × EndsShareOn file.now plan s before after old new result
+    × EndsShareOn file.now plan s before.places after.places old new result × (after.peers ≡ before.peers)
 EndsJob (Join to from which plan) before after old new result =
-    (refused : Option ℕ) × EndsJoin to.now (map (λ s. s.now) from.items) plan before after old new result refused
+    (refused : Option ℕ)
+    × EndsJoin to.now (map (λ s. s.now) from.items) plan before.places after.places old new result refused
+    × (after.peers ≡ before.peers)
 
 -- the line that says which file is refused, by its place and its path, which is quoted, so that it can't end the line
 abbrev pub file_line : ℕ → List ℕ → List ℕ

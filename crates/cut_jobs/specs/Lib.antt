@@ -1,5 +1,6 @@
 pub mod Sending
 pub mod Quoted
+pub mod Paths
 pub mod Jobs
 pub mod Program
 pub mod inside

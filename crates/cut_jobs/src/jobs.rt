@@ -1,19 +1,22 @@
 ghost use Rattle.cut_command_line.specs.Line.{IsSizedJob};
 ghost use Rattle.cut_jobs.specs.Jobs.{EndsJob, PrintsOn, TellsRefused};
+ghost use Rattle.cut_jobs.specs.Paths.{paths_of};
 
+use crate::Devices;
 use crate::join_job::JoinJob;
 use crate::run_job::{RunJob, WorkersJob};
 use crate::share_job::ShareJob;
 use crate::study_job::StudyJob;
 use cut_command_line::Job;
 use cut_commands::{
-    CliFault, MigratedFiles, PlanSource, ask_at, canonical_from, check_from, explain_from, migrate,
+    CliFault, MigratedFiles, PlanSource, ask, canonical_from, check_from, explain_from, migrate,
     status,
 };
 use cut_files::Files;
 use cut_machines::JoinedFiles;
 use cut_server::{Capacity, serve_at};
 use cut_share::Share;
+use cut_sockets::Sockets;
 use cut_wires::Wire;
 use std::sync::Wait;
 use std::thread::Threads;
@@ -22,16 +25,16 @@ use std::time::Clock;
 /// The system that the program runs on.
 #[derive(Drop)]
 pub struct System<'a, R> {
-    /// What has its memory, its clocks and its sockets, and the files of a server.
+    /// What has its memory and its clocks, and the files and the socket of a server.
     pub host: &'a HostRuntime,
     /// What makes its threads.
     pub rt: &'a R,
 }
 
-/// Does a job over files and a wire. The files of checkpoints are opened before anything is read. Progress, and which
-/// file is refused, is printed on the errors if it is asked for.
-pub(crate) fn answer<F, W, E, R>(
-    files: &mut F,
+/// Does a job over files, sockets and a wire. The files of checkpoints are opened before anything is read. Progress, and
+/// which file is refused, is printed on the errors if it is asked for.
+pub(crate) fn answer<F, S, W, E, R>(
+    devices: &mut Devices<F, S>,
     system: &System<'_, R>,
     job: Job,
     wire: &mut W,
@@ -39,14 +42,16 @@ pub(crate) fn answer<F, W, E, R>(
 ) -> Result<(), CliFault>
 where
     F: Files,
+    S: Sockets,
     W: Wire,
     E: Wire + Send,
     R: Threads + Wait + Clock + Sync,
     requires { IsSizedJob job }
-    ensures ends { EndsJob job.entry (F.log files.old) (F.log files.new) (W.log wire.old) (W.log wire.new) result }
+    ensures ends { EndsJob job.entry (paths_of F.log S.log devices.old) (paths_of F.log S.log devices.new)
+        (W.log wire.old) (W.log wire.new) result }
     ensures prints { PrintsOn job.entry result (E.log errors.old) (E.log errors.new) }
-    ensures tells { TellsRefused job.entry (F.log files.old) (F.log files.new) (W.log wire.old) (W.log wire.new) result
-        (E.log errors.old) (E.log errors.new) }
+    ensures tells { TellsRefused job.entry (F.log devices.old.files) (F.log devices.new.files)
+        (W.log wire.old) (W.log wire.new) result (E.log errors.old) (E.log errors.new) }
 {
     let alloc = system.host.alloc();
     match job {
@@ -63,7 +68,7 @@ where
                 checkpoint,
                 plan,
             });
-            RunJob { work, progress }.run(files, system, wire, errors)
+            RunJob { work, progress }.run(&mut devices.files, system, wire, errors)
         }
         Job::Share {
             index,
@@ -85,7 +90,7 @@ where
                 file,
                 plan,
             });
-            RunJob { work, progress }.run(files, system, wire, errors)
+            RunJob { work, progress }.run(&mut devices.files, system, wire, errors)
         }
         Job::Join {
             new,
@@ -102,14 +107,18 @@ where
                 files: joined,
                 which,
             };
-            join.run(files, alloc, wire, errors)
+            join.run(&mut devices.files, alloc, wire, errors)
         }
-        Job::Check { plan } => check_from(alloc, PlanSource::of(&*files, plan), wire),
+        Job::Check { plan } => check_from(alloc, PlanSource::of(&devices.files, plan), wire),
         Job::Explain { plan } => {
-            explain_from(alloc, system.host, PlanSource::of(&*files, plan), wire)
+            let source = PlanSource::of(&devices.files, plan);
+            explain_from(alloc, system.host, source, wire)
         }
-        Job::Canonical { plan } => canonical_from(alloc, PlanSource::of(&*files, plan), wire),
-        Job::Status { file } => status(&*files, alloc, wire, file),
+        Job::Canonical { plan } => {
+            let source = PlanSource::of(&devices.files, plan);
+            canonical_from(alloc, source, wire)
+        }
+        Job::Status { file } => status(&devices.files, alloc, wire, file),
         Job::Serve {
             socket,
             workers,
@@ -128,7 +137,8 @@ where
             }
         }
         Job::Ask { socket, plan } => {
-            ask_at(system.host, PlanSource::of(&*files, plan), wire, socket)
+            let source = PlanSource::of(&devices.files, plan);
+            ask(&mut devices.sockets, alloc, source, wire, socket)
         }
         Job::Migrate { old, new, plan } => {
             let paths = MigratedFiles {
@@ -136,7 +146,7 @@ where
                 to: new,
                 plan,
             };
-            migrate(files, alloc, wire, paths)
+            migrate(&mut devices.files, alloc, wire, paths)
         }
     }
 }

@@ -1,6 +1,7 @@
-//! The jobs that a command line names, done over wires and files, and the status with which the program ends.
+//! The jobs that a command line names, done over wires, files and sockets, and the status with which the program ends.
 #![tactic(auto)]
 
+mod devices;
 mod jobs;
 mod join_job;
 mod program;
@@ -9,5 +10,6 @@ mod run_job;
 mod share_job;
 mod study_job;
 
+pub use devices::Devices;
 pub use jobs::System;
 pub use program::{end_unopened, end_unread, run_words};

@@ -1,15 +1,17 @@
 //! The program, over its words and wires.
 ghost use Rattle.std.specs.Prelude.{map, string_bytes, Err};
 ghost use Rattle.cut_jobs.specs.Program.{EndsProgram, ReportsEnd, ReportsLine, ReportsUnread};
+ghost use Rattle.cut_jobs.specs.Paths.{paths_of};
 ghost use Rattle.cut_jobs.specs.Sending.{IsSent};
 
+use crate::Devices;
 use crate::jobs::{System, answer};
 use cut_command_line::{LineFault, parse_line};
 use cut_commands::CliFault;
 use cut_files::Files;
 use cut_journal::JournalFault;
+use cut_sockets::Sockets;
 use cut_wires::{Wire, send_all};
-use std::convert::AsStr;
 use std::io::ErrorKind;
 use std::sync::Wait;
 use std::thread::Threads;
@@ -24,26 +26,28 @@ const UNREADABLE_LINE: &[u8] = b"error: a word of the command line is not UTF-8\
 /// A command reads its plan from `wire`, or from a file that is named, and writes its answer to `wire`; its fault is
 /// one line on `errors`, from which nothing is read, after the lines of progress, or that of a refused file, if these
 /// are asked for. Help goes to `wire`, what is wrong with the words to `errors`, both as clap writes them. The files of
-/// plans and checkpoints are those of `files`, except for those of a server, which are the system's.
-pub fn run_words<F, R, S, W, E>(
-    files: &mut F,
+/// plans and checkpoints, and the sockets of servers that are asked, are those of `devices`. The files and the socket of
+/// a server that is run are the system's.
+pub fn run_words<F, S, R, W, E>(
+    devices: &mut Devices<F, S>,
     system: &System<'_, R>,
-    words: &[S],
+    words: &[String],
     wire: &mut W,
     errors: &mut E,
 ) -> u8
 where
     F: Files,
+    S: Sockets,
     R: Threads + Wait + Clock + Sync,
-    S: AsStr,
     W: Wire,
     E: Wire + Send,
-    ensures { EndsProgram (map S.text words.now) (F.log files.old) (F.log files.new) (W.log wire.old) (W.log wire.new)
-        (E.log errors.old) (E.log errors.new) result }
+    ensures { EndsProgram (map string_bytes words.now) (paths_of F.log S.log devices.old)
+        (paths_of F.log S.log devices.new) (W.log wire.old) (W.log wire.new) (E.log errors.old) (E.log errors.new)
+        result }
 {
     match parse_line(system.host.alloc(), words) {
         Ok(job) => {
-            let ended = answer(files, system, job, wire, errors);
+            let ended = answer(devices, system, job, wire, errors);
             end(ended, errors)
         }
         Err(fault) => end_line(&fault, wire, errors),

@@ -1,6 +1,6 @@
 //! What no contract of the lower crates says: sets, lists and faults read one by one, files of the system and in memory,
 //! blocks beside keys, lanes beside sorted times, boards by hand and under many threads, wires that move few bytes or fail,
-//! and an answer that ends early.
+//! sockets of the system and in memory, and an answer that ends early.
 //!
 //! The tests stand in a crate of their own, as they use these crates as their callers do, and the proofs of the crates
 //! need not be made again for them.
@@ -22,5 +22,7 @@ mod files;
 mod lanes;
 #[cfg(test)]
 mod ranges;
+#[cfg(test)]
+mod sockets;
 #[cfg(test)]
 mod wires;

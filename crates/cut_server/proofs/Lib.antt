@@ -1,2 +1,3 @@
 pub mod AttendLemmas
 pub mod ReportLemmas
+pub mod Histories

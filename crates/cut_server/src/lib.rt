@@ -8,6 +8,7 @@
 #![tactic(auto)]
 
 mod capacity;
+pub mod laws;
 mod serve;
 mod shelf;
 mod socket;

@@ -1,9 +1,10 @@
 //! Servers and their clients, over sockets of the system and over wires in memory.
 
-use cut_commands::{CliFault, PlanSource, ask_at};
+use cut_commands::{CliFault, PlanSource, ask};
 use cut_faults::Failures;
 use cut_files::MemoryFiles;
 use cut_server::{Capacity, FolderShelf, ListenFault, Listener, serve_at, serve_io};
+use cut_sockets::SystemSockets;
 use cut_wires::MemoryWire;
 use std::alloc::{AllocError, Global};
 use std::io::Write;
@@ -68,10 +69,13 @@ fn is_asked_once(
     plan: &str,
     table: &str,
 ) -> Result<bool, AllocError> {
-    let input = Vec::from_slice(host.alloc(), plan.as_bytes())?;
-    let mut wire = MemoryWire::new(host.alloc(), input, 4096);
+    let alloc = host.alloc();
+    let input = Vec::from_slice(alloc, plan.as_bytes())?;
+    let mut wire = MemoryWire::new(alloc, input, 4096);
+    let mut sockets = SystemSockets::of(host);
     let source = PlanSource::<MemoryFiles>::Input;
-    Ok(ask_at(host, source, &mut wire, socket).is_ok() && wire.taken() == table.as_bytes())
+    let ended = ask(&mut sockets, alloc, source, &mut wire, socket);
+    Ok(ended.is_ok() && wire.taken() == table.as_bytes())
 }
 
 /// Whether a client has its table, once there is a server.

@@ -6,7 +6,8 @@ mod stand_ins;
 
 use crate::stand_ins::StandIns;
 use cut_files::SystemFiles;
-use cut_jobs::{System, end_unopened, end_unread, run_words};
+use cut_jobs::{Devices, System, end_unopened, end_unread, run_words};
+use cut_sockets::SystemSockets;
 use cut_wires::StreamWire;
 use std::alloc::Global;
 use std::env::Env;
@@ -23,9 +24,12 @@ fn main(rt: HostRuntime) -> ExitCode {
         Err(error) => return ExitCode::from(end_unread(error.kind(), &mut errors)),
     };
     let mut wire = StreamWire::new(rt.stdin(), rt.stdout());
-    let mut files = SystemFiles::of(&rt);
+    let mut devices = Devices {
+        files: SystemFiles::of(&rt),
+        sockets: SystemSockets::of(&rt),
+    };
     let system = System { host: &rt, rt: &rt };
-    ExitCode::from(run_words(&mut files, &system, &words, &mut wire, &mut errors))
+    ExitCode::from(run_words(&mut devices, &system, &words, &mut wire, &mut errors))
 }
 
 /// The words of the command line, the program's name first.

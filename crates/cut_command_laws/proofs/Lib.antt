@@ -1,2 +1,0 @@
-pub mod Replied
-pub mod Histories

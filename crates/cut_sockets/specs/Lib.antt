@@ -1,0 +1,3 @@
+pub mod Peer
+pub mod Memory
+pub mod System
