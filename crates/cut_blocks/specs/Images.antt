@@ -32,6 +32,10 @@ least_image d copies block q row =
     fold (λ least c. min least (image_at d (place_in (row + (block + c * 2 ^ 24)) q))) never
     (range_with_len 0 copies)
 
+-- the least over copies of what each gives for a key and a row; `never` if there is no copy
+unfoldable pub least_over : (ℕ → ℕ → ℕ → ℕ) → ℕ → ℕ → ℕ → ℕ
+least_over f copies q row = fold (λ least c. min least (f c q row)) never (range_with_len 0 copies)
+
 -- the key of a delivery stands in the block that its edge's number says, of the row of its copy and receiver
 abbrev pub DeliveriesStandInBlocks : Type 0
 DeliveriesStandInBlocks =

@@ -1,4 +1,4 @@
-ghost use Rattle.std.specs.Prelude.{◌≡◌, ◌+◌, ◌*◌, ◌/◌, ◌%◌, ◌^◌, ◌<◌, ◌≤◌, [], map, All, OnOk};
+ghost use Rattle.std.specs.Prelude.{◌≡◌, ◌+◌, ◌*◌, ◌/◌, ◌%◌, ◌^◌, ◌<◌, ◌≤◌, [], ◌++◌, map, All, OnOk};
 ghost use Rattle.std.specs.Prelude.{OnErr, length};
 ghost use Rattle.cut_draws.specs.Source.{source_of, word_of};
 ghost use Rattle.cut_blocks.specs.inside.States.{AreFirstStates};
@@ -80,6 +80,25 @@ impl Blocks {
         ensures err { OnErr result (images.new.items ≡ []) }
     {
         images.clear();
+        self.draw_more(images, copies, rows, blocks)
+    }
+
+    /// Draws the same as [`draw`](Blocks::draw), after what stands in `images` already, of which nothing changes, also
+    /// if memory runs out.
+    pub fn draw_more(
+        &self,
+        images: &mut Vec<[u32x4; 8]>,
+        copies: u32,
+        rows: u32x4,
+        blocks: &[u32],
+    ) -> Result<(), AllocError>
+        requires copies { copies ≤ 4 }
+        requires rows { All (λ row. row < 2 ^ 27) rows }
+        requires blocks { All (λ block. block < 2 ^ 13) blocks.now }
+        ensures images { OnOk result (images.new.items
+            ≡ images.old.items ++ map (λ block. eight (least_image self.now copies block) rows) blocks.now) }
+        ensures err { OnErr result (images.new.items ≡ images.old.items) }
+    {
         images.reserve(blocks.len())?;
         let states = self.first_states();
         let all = Rows {

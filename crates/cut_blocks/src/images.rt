@@ -1,7 +1,9 @@
 //! Eight vectors of images, a receiver in each lane.
-ghost use Rattle.std.specs.Prelude.{◌≡◌, ℕ, ◌/◌, ◌-◌, List, map, min};
-ghost use Rattle.cut_blocks.specs.Images.{eight};
+ghost use Rattle.std.specs.Prelude.{◌≡◌, ℕ, ◌+◌, ◌*◌, ◌/◌, ◌-◌, ◌<◌, List, [], map, min, length, slice_index_or};
+ghost use Rattle.std.specs.Prelude.{OnOk, OnErr};
+ghost use Rattle.cut_blocks.specs.Images.{eight, least_over};
 
+use std::alloc::AllocError;
 use std::simd::u32x4;
 
 /// What a block gives four receivers: a vector for each of its eight keys.
@@ -36,6 +38,46 @@ fn quarter_of(word: u32x4) -> u32x4
         → result ≡ map (λ row. f row / 4) rows }
 {
     word >> u32x4::splat(2)
+}
+
+/// The least images of blocks over copies, of which the images of all blocks stand one copy after another. What stood in
+/// `least` is gone, also if memory runs out.
+pub fn least_of(
+    least: &mut Vec<[u32x4; 8]>,
+    images: &[[u32x4; 8]],
+    copies: usize,
+    blocks: usize,
+) -> Result<(), AllocError>
+    requires { length images.now ≡ copies * blocks }
+    ensures least { OnOk result ((b : ℕ) (f : ℕ → ℕ → ℕ → ℕ) (rows : List ℕ) → b < blocks → length rows ≡ 4
+        → ((c : ℕ) → c < copies → slice_index_or images.now (c * blocks + b) [] ≡ eight (f c) rows)
+        → slice_index_or least.new.items b [] ≡ eight (least_over f copies) rows) }
+    ensures many { OnOk result (length least.new.items ≡ blocks) }
+    ensures err { OnErr result (least.new.items ≡ []) }
+{
+    least.clear();
+    least.reserve(blocks)?;
+    for block in 0..blocks {
+        least.push_reserved(least_at(images, copies, blocks, block));
+    }
+    Ok(())
+}
+
+/// The least images of one of the blocks.
+#[inline(always)]
+fn least_at(images: &[Eight], copies: usize, blocks: usize, block: usize) -> Eight
+    requires images { length images.now ≡ copies * blocks }
+    requires block { block < blocks }
+    ensures { (f : ℕ → ℕ → ℕ → ℕ) (rows : List ℕ) → length rows ≡ 4
+        → ((c : ℕ) → c < copies → slice_index_or images.now (c * blocks + block) [] ≡ eight (f c) rows)
+        → result ≡ eight (least_over f copies) rows }
+{
+    let mut least = [u32x4::splat(NEVER); 8];
+    for copy in 0..copies {
+        let both = lesser_of(least, images[copy * blocks + block]);
+        least = both;
+    }
+    least
 }
 
 /// The lesser of two in each lane.

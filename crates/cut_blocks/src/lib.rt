@@ -13,4 +13,4 @@ pub mod laws;
 mod rounds;
 
 pub use blocks::Blocks;
-pub use images::NEVER;
+pub use images::{NEVER, least_of};

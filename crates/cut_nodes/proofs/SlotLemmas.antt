@@ -5,7 +5,7 @@ use Rattle.std.proofs.lemmas.List.Elements.{All-push}
 use Rattle.cut_rings.specs.declared.edge.Edge.{Edge}
 use Rattle.cut_rings.specs.Edges.{edge_number}
 use Rattle.cut_nodes.specs.declared.slots.Slot.{Slot}
-use Rattle.cut_nodes.specs.Slots.{AreSlots}
+use Rattle.cut_nodes.specs.Slots.{AreSlots, BeginsWith}
 use Rattle.cut_nodes.specs.inside.Slots.{IsSlot, Extends}
 use Rattle.cut_lists.proofs.Maps.{maps_agree}
 
@@ -32,3 +32,6 @@ pub slots_more : (k : ℕ) (old new : List ℕ) (edges : List Edge) (slots : Lis
     → AreSlots k new (edges ++ e ∷ []) (slots ++ slot ∷ [])
 slots_more k old new edges slots e slot extends are is =
     slots_push k new edges slots e slot (slots_kept k old new 1 edges slots extends are) is
+
+pub begins_still : (first old new : List ℕ) (m : ℕ) → Extends old m new → BeginsWith first old → BeginsWith first new
+begins_still first old new m extends begins = grind arith

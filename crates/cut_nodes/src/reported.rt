@@ -94,7 +94,7 @@ impl<'a> Reported<'a> {
             blocks.new.items self.now.subjects.now d) }
         ensures blocks { OnOk result (Extends blocks.old.items (length edges.now) blocks.new.items) }
     {
-        let heard = slots_among(alloc, blocks, self.rule.k, edges)?;
+        let heard = slots_among(alloc, blocks, &[], self.rule.k, edges)?;
         let causes = self.causes(alloc, subject, edges, heard.as_slice())?;
         let gains = is_some_gained(causes.as_slice());
         Ok(Node {

@@ -1,7 +1,7 @@
 ghost use Rattle.std.specs.Prelude.{◌+◌, ◌^◌, ◌<◌, ◌≤◌, length, IfOk, OnOk, All, IsTrue};
 ghost use Rattle.cut_plan.specs.declared.limits.TheConstants.{MOST_NODES};
 ghost use Rattle.cut_rings.specs.Edges.{are_edges_of};
-ghost use Rattle.cut_nodes.specs.Slots.{AreSlots};
+ghost use Rattle.cut_nodes.specs.Slots.{AreSlots, BeginsWith};
 ghost use Rattle.cut_nodes.specs.inside.Slots.{IsSlot, Extends, IsLast};
 
 use cut_rings::Edge;
@@ -34,44 +34,75 @@ impl Slots {
         requires few { length edges.now ≤ 2 ^ 16 }
         ensures slots { IfOk result (λ x. AreSlots k x.blocks.items edges.now x.slots.items) }
     {
-        let mut blocks = Vec::new(alloc);
-        let slots = slots_among(alloc, &mut blocks, k, edges)?;
+        Slots::after(alloc, &[], k, edges)
+    }
+
+    /// The slots of edges of the first `k` rings, in order of the edges. The blocks begin with those of `first`, if
+    /// these and one for each edge have places of 16 bits.
+    pub fn after(alloc: Global, first: &[u32], k: u8, edges: &[Edge]) -> Result<Slots, AllocError>
+        requires rings { k ≤ 32 }
+        requires edges { IsTrue (are_edges_of k MOST_NODES edges.now) }
+        requires few { length edges.now ≤ 2 ^ 16 }
+        requires first { All (λ block. block < 2 ^ 13) first.now }
+        ensures slots { IfOk result (λ x. AreSlots k x.blocks.items edges.now x.slots.items) }
+        ensures first { IfOk result (λ x. length first.now + length edges.now ≤ 2 ^ 16
+            → BeginsWith first.now x.blocks.items) }
+    {
+        let first = if first.len() + edges.len() <= 1 << 16 {
+            first
+        } else {
+            &[]
+        };
+        let mut blocks = Vec::from_slice(alloc, first)?;
+        let slots = slots_among(alloc, &mut blocks, first, k, edges)?;
         Ok(Slots { blocks, slots })
     }
 }
 
-/// The slots of edges of the first `k` rings. Each block is appended to the blocks unless it is the last one already.
+/// The slots of edges of the first `k` rings among blocks that begin with `first`. A block that is none of these is
+/// appended to the blocks unless it is the last one already.
 pub(crate) fn slots_among(
     alloc: Global,
     blocks: &mut Vec<u32>,
+    first: &[u32],
     k: u8,
     edges: &[Edge],
 ) -> Result<Vec<Slot>, AllocError>
     requires rings { k ≤ 32 }
     requires edges { IsTrue (are_edges_of k MOST_NODES edges.now) }
     requires room { length blocks.old.items + length edges.now ≤ 2 ^ 16 }
+    requires first { BeginsWith first.now blocks.old.items }
     ensures slots { IfOk result (λ slots. AreSlots k blocks.new.items edges.now slots.items) }
     ensures blocks { OnOk result (Extends blocks.old.items (length edges.now) blocks.new.items) }
 {
     let mut slots = Vec::with_capacity(alloc, edges.len())?;
     for edge in edges {
-        let slot = slot_of(blocks, edge.number(k))?;
+        let slot = slot_of(blocks, first, edge.number(k))?;
         slots.push(slot)?;
     }
     Ok(slots)
 }
 
-/// Where the key of an edge of this number stands. Its block is appended to the blocks unless it is the last one
-/// already.
-fn slot_of(blocks: &mut Vec<u32>, number: u16) -> Result<Slot, AllocError>
-    requires { length blocks.old.items < 2 ^ 16 }
+/// Where the key of an edge of this number stands among blocks that begin with `first`. Its block is appended to the
+/// blocks if it is none of these, unless it is the last one already.
+fn slot_of(blocks: &mut Vec<u32>, first: &[u32], number: u16) -> Result<Slot, AllocError>
+    requires room { length blocks.old.items < 2 ^ 16 }
+    requires first { BeginsWith first.now blocks.old.items }
     ensures slot { IfOk result (λ slot. IsSlot blocks.new.items number slot) }
     ensures blocks { OnOk result (Extends blocks.old.items 1 blocks.new.items) }
 {
-    reach(blocks, u32::from(number / 8))?;
+    let block = u32::from(number / 8);
+    let key = (number % 8) as u8;
+    if let Ok(place) = first.binary_search(&block) {
+        return Ok(Slot {
+            block: place as u16,
+            key,
+        });
+    }
+    reach(blocks, block)?;
     Ok(Slot {
         block: (blocks.len() - 1) as u16,
-        key: (number % 8) as u8,
+        key,
     })
 }
 

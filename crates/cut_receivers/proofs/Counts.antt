@@ -1,6 +1,6 @@
 -- Counts of deliveries by the slots of their edges.
 use Rattle.std.proofs.Common.{◌≡◌, ◌∙◌, ℕ, ◌+◌, ◌*◌, ◌^◌, ◌<◌, ◌≤◌, ◌==◌, Bool, nat_lt, nat_le, cond}
-use Rattle.std.proofs.Common.{List, [], ◌∷◌, ◌++◌, length, map, slice_index, slice_index_or, refl, ap, sym}
+use Rattle.std.proofs.Common.{List, [], ◌∷◌, ◌++◌, length, slice_index_or, refl, ap, sym}
 use Rattle.std.proofs.Common.{zero-add, arith}
 use Rattle.std.specs.List.{All, count_by, range_with_len, flat_map}
 use Rattle.std.proofs.lemmas.Bool.Decides.{nat_tests}
@@ -12,15 +12,11 @@ use Rattle.cut_lists.proofs.Ranges.{range_with_len_more}
 use Rattle.cut_rings.specs.declared.edge.Edge.{Edge}
 use Rattle.cut_draws.specs.declared.delivery.Delivery.{Delivery}
 use Rattle.cut_draws.specs.DeliveryOrder.{copies_of}
-use Rattle.cut_draws.specs.Source.{Source}
-unfoldable use Rattle.cut_blocks.specs.Images.{least_image}
-use Rattle.cut_blocks.specs.Images.{eight, image_at, place_in, row_of, DeliveriesStandInBlocks}
-use Rattle.cut_blocks.specs.Images.{ImagesAreBelowNever}
+use Rattle.cut_blocks.specs.Images.{image_at, place_in, row_of, DeliveriesStandInBlocks}
 use Rattle.cut_arrivals.specs.Hearing.{Hearing, deliveries_of, image_of}
 use Rattle.cut_nodes.specs.declared.slots.Slot.{Slot}
 use Rattle.cut_nodes.specs.Slots.{AreSlots, key_in, key_of}
-use Rattle.cut_receivers.specs.inside.Places.{image_in}
-use Rattle.cut_receivers.proofs.Drawn.{image_drawn}
+use Rattle.cut_receivers.specs.inside.Places.{image_in, AreImagesOf}
 
 -- of the first copies of all edges how many have an image below a bound
 abbrev pub count_below : Hearing → ℕ → ℕ → ℕ
@@ -38,34 +34,20 @@ count_agree p q xs same =
     sym (count_by-map (λ b. b) p xs) ∙ ap (λ (bs : List Bool). count_by (λ b. b) bs) (maps_agree p q xs same)
     ∙ count_by-map (λ b. b) q xs
 
--- the image of a key of one copy
-one_image : ImagesAreBelowNever → (d : Source) (b q row : ℕ)
-    → least_image d 1 b q row ≡ image_at d (place_in (row + b) q)
-unfolding least_image
-one_image below d b q row =
-    grind arith
-
--- in lane i of the images that are drawn for a copy, as many slots are below a bound as deliveries of that copy
-pub copy_counted : DeliveriesStandInBlocks → ImagesAreBelowNever
-    → (x : Hearing) (c i bound : ℕ) (js blocks : List ℕ) (slots : List Slot)
-    (images : List (List (List ℕ)))
-    → images ≡ map (λ block. eight (least_image x.source 1 block) (map (λ j. row_of c j) js)) blocks
-    → length js ≡ 4 → i < 4 → x.receiver ≡ slice_index js i → AreSlots x.rule.k blocks x.edges slots
+-- in lane i of the images of a copy, as many slots are below a bound as deliveries of that copy
+pub copy_counted : DeliveriesStandInBlocks
+    → (x : Hearing) (c i bound : ℕ) (blocks : List ℕ) (slots : List Slot) (images : List (List (List ℕ)))
+    → AreImagesOf x c i blocks images → AreSlots x.rule.k blocks x.edges slots
     → count_by (λ slot. nat_lt (image_in images i slot) bound) slots ≡ count_by (λ y. nat_lt (image_of x y) bound)
     (copies_of x.edges c)
-copy_counted stand below x c i bound js blocks slots images drawn four low who are =
+copy_counted stand x c i bound blocks slots images drawn are =
     let k : ℕ = x.rule.k in
     let image : ℕ × ℕ → ℕ = λ key. image_at x.source (place_in (row_of c x.receiver + key.0) key.1) in
     let test : ℕ × ℕ → Bool = λ key. nat_lt (image key) bound in
     let of : Edge → Delivery = λ e. record { edge = e; copy = c } in
     let at : (slot : Slot) → slot.block < length blocks → slot.key < 8
     → image_in images i slot ≡ image (key_in blocks slot) =
-    λ slot inside few.
-    ap (λ (vs : List (List (List ℕ))). image_in vs i slot) drawn
-    ∙ image_drawn (λ block q row. least_image x.source 1 block q row)
-    (λ j. row_of c j) js blocks slot.block slot.key i four inside few low
-    ∙ one_image below x.source (slice_index blocks slot.block) slot.key (row_of c (slice_index js i))
-    ∙ ap (λ (j : ℕ). image_at x.source (place_in (row_of c j + slice_index blocks slot.block) slot.key)) (sym who) in
+    λ slot inside few. drawn slot.block slot.key inside few in
     count_agree (λ slot. nat_lt (image_in images i slot) bound) (λ slot. test (key_in blocks slot)) slots
     (λ n d inside. ap (λ (m : ℕ). nat_lt m bound) (at (slice_index_or slots n d) (are.within n d inside)
     (are.eight n d inside)))
@@ -105,19 +87,18 @@ count_at f time [] = refl
 count_at f time (y ∷ ys) =
     search (arith, sum_by-cons, one_at, count_at f time ys)
 
-pub copy_more : DeliveriesStandInBlocks → ImagesAreBelowNever
-    → (x : Hearing) (c i bound : ℕ) (js blocks : List ℕ) (slots : List Slot)
+pub copy_more : DeliveriesStandInBlocks
+    → (x : Hearing) (c i bound : ℕ) (blocks : List ℕ) (slots : List Slot)
     (images : List (List (List ℕ))) (old new : ℕ)
-    → images ≡ map (λ block. eight (least_image x.source 1 block) (map (λ j. row_of c j) js)) blocks
-    → length js ≡ 4 → i < 4 → x.receiver ≡ slice_index js i → AreSlots x.rule.k blocks x.edges slots
+    → AreImagesOf x c i blocks images → AreSlots x.rule.k blocks x.edges slots
     → new ≡ old + count_by (λ slot. nat_lt (image_in images i slot) bound) slots → old ≡ count_below x c bound
     → new ≡ count_below x (c + 1) bound
-copy_more stand below x c i bound js blocks slots images old new drawn four low who are more is =
+copy_more stand x c i bound blocks slots images old new drawn are more is =
     omega (
       arith,
       more,
       is,
-      copy_counted stand below x c i bound js blocks slots images drawn four low who are,
+      copy_counted stand x c i bound blocks slots images drawn are,
       below_more x c bound,
     )
 

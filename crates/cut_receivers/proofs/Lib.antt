@@ -11,3 +11,4 @@ mod Counted
 mod Kept
 mod Counts
 mod Proposed
+mod Copied

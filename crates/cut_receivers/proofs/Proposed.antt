@@ -1,16 +1,19 @@
 -- At which place a lane's receiver proposes.
-use Rattle.std.proofs.Common.{◌≡◌, ◌∙◌, ℕ, ◌<◌, ◌≤◌, ◌==◌, false, not, List, length, slice_index}
-use Rattle.std.proofs.Common.{IfSome, sym, arith}
+use Rattle.std.proofs.Common.{◌≡◌, ◌∙◌, ℕ, ◌+◌, ◌*◌, ◌<◌, ◌≤◌, ◌==◌, false, not, List, length, slice_index}
+use Rattle.std.proofs.Common.{IfSome, ap, sym, arith}
 use Rattle.std.specs.List.{count_by}
 use Rattle.std.proofs.lemmas.Bool.Decides.{nat_tests}
 use Rattle.cut_draws.specs.declared.delivery.Delivery.{Delivery}
-use Rattle.cut_blocks.specs.Images.{never}
+use Rattle.cut_blocks.specs.Images.{never, image_at, place_in, row_of}
 use Rattle.cut_lanes.specs.Lanes.{lane}
 use Rattle.cut_arrivals.specs.Laws.{ClosesAtPlace}
 use Rattle.cut_arrivals.specs.Hearing.{Hearing, deliveries_of, image_of, proposal_at}
 use Rattle.cut_receivers.specs.declared.receivers.Receivers as declared
 use Rattle.cut_receivers.specs.declared.places.Places as counted
-use Rattle.cut_receivers.specs.Heard.{HasHeard}
+use Rattle.cut_receivers.specs.declared.deliveries.Kept.{Kept}
+use Rattle.cut_receivers.specs.declared.trial.Trial.{Trial}
+use Rattle.cut_receivers.specs.Heard.{hearing_of, HasHeard, HasKept}
+use Rattle.cut_receivers.specs.inside.Places.{image_for}
 use Rattle.cut_receivers.specs.Findings.{has_bit}
 use Rattle.cut_receivers.specs.Places.{HasCountedPlaces}
 use Rattle.cut_receivers.proofs.Bounds.{high_within}
@@ -45,3 +48,21 @@ placed law x subjects i f p h clear counts apart =
     (slice_index f.closing.first i) t h.hearing (omega arith)
     (closed x subjects i f h (certain_of x subjects i f h clear)) one in
     grind arith
+
+-- in lane i stand the images of the blocks that are known, as they do of what was heard
+pub knows_images : (t : Trial) (receivers blocks bs : List ℕ) (ks : List (List (List ℕ))) (kept : Kept) (i : ℕ)
+    (f : declared.Receivers) → HasKept (hearing_of t (slice_index receivers i)) i f
+    → bs ≡ f.kept_blocks.items → ks ≡ f.kept.items
+    → ((b : ℕ) → b < kept.known → slice_index blocks b ≡ slice_index bs b)
+    → (0 < kept.known → (kept.images.now ≡ ks) × (kept.blocks ≡ length bs)) → kept.known ≤ kept.blocks
+    → (c b q : ℕ) → c < t.copies → b < kept.known → q < 8
+    → image_for kept.images.now (c * kept.blocks + b) q i
+    ≡ image_at t.blocks.now (place_in (row_of c (slice_index receivers i) + slice_index blocks b) q)
+knows_images t receivers blocks bs ks kept i f has bs_are ks_are same are few_known c b q few inside eighth =
+    let is = are (omega (arith, inside)) in
+    let many : kept.blocks ≡ length f.kept_blocks.items = is.1 ∙ ap (λ (xs : List ℕ). length xs) bs_are in
+    ap (λ (vs : List (List (List ℕ))). image_for vs (c * kept.blocks + b) q i) (is.0 ∙ ks_are)
+    ∙ ap (λ (n : ℕ). image_for f.kept.items (c * n + b) q i) many
+    ∙ has c b q few (omega (arith, inside, few_known, many)) eighth
+    ∙ ap (λ (n : ℕ). image_at t.blocks.now (place_in (row_of c (slice_index receivers i) + n) q))
+    (sym (same b inside ∙ ap (λ (xs : List ℕ). slice_index xs b) bs_are))

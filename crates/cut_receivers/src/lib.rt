@@ -5,6 +5,7 @@
 //! doubt, the lane says so, and its caller replays that receiver's deliveries by whole keys.
 #![tactic(auto)]
 
+mod deliveries;
 mod finding;
 mod gathered;
 mod images;

@@ -1,5 +1,5 @@
-ghost use Rattle.std.specs.Prelude.{◌≡◌, ℕ, ◌+◌, ◌^◌, ◌<◌, ◌≤◌, false, nat_lt, List, length, slice_index, count_by};
-ghost use Rattle.std.specs.Prelude.{All, IfOk, IfSome};
+ghost use Rattle.std.specs.Prelude.{◌≡◌, ℕ, ◌+◌, ◌*◌, ◌^◌, ◌<◌, ◌≤◌, false, nat_lt, List, length, slice_index, count_by};
+ghost use Rattle.std.specs.Prelude.{All, IfOk, IfSome, OnOk};
 ghost use Rattle.cut_plan.specs.declared.limits.TheConstants.{MOST_NODES};
 ghost use Rattle.cut_blocks.specs.Images.{never};
 ghost use Rattle.cut_arrivals.specs.Hearing.{Hearing, proposal_at};
@@ -7,8 +7,9 @@ ghost use Rattle.cut_nodes.specs.Slots.{AreSlots};
 ghost use Rattle.cut_receivers.specs.Heard.{hearing_of, HasHeard};
 ghost use Rattle.cut_receivers.specs.Findings.{has_bit};
 ghost use Rattle.cut_receivers.specs.Places.{HasCountedPlaces};
-ghost use Rattle.cut_receivers.specs.inside.Places.{image_in};
+ghost use Rattle.cut_receivers.specs.inside.Places.{image_in, hearing_to, KnowsImages, AreImagesOf};
 
+use crate::deliveries::{Deliveries, Kept};
 use crate::finding::has_bit;
 use crate::lanes::{bits_of, counted, next_of, not_next, rows_of};
 use crate::{Receivers, Trial};
@@ -49,7 +50,7 @@ impl Places {
 
 impl Receivers {
     /// Counts the deliveries that have come when four receivers propose, by the slots of all alerted edges, for the
-    /// receivers whose times were computed. A place is in doubt exactly if the receiver's closing time is not the image
+    /// receivers whose times were computed. Of images that are kept none is drawn again. A place is in doubt exactly if the receiver's closing time is not the image
     /// of exactly one delivery, so also where it never proposes. Fails only if memory runs out.
     pub fn places(
         &mut self,
@@ -75,41 +76,100 @@ impl Receivers {
         ensures closing { self.new.closing ≡ self.old.closing }
     {
         images_give_the_place();
-        let time = self.closing.time;
-        count_deliveries(&trial, receivers, slots, time, &mut self.images)
+        let kept = self.kept.as_slice();
+        let blocks = self.kept_blocks.as_slice();
+        let deliveries = Deliveries {
+            trial,
+            receivers,
+            slots,
+            kept: kept_for(kept, blocks, trial.copies, slots),
+        };
+        deliveries.count(self.closing.time, &mut self.images)
     }
 }
 
-/// Counts the deliveries whose images are at most a time.
-fn count_deliveries(
-    trial: &Trial<'_>,
-    receivers: [u16; 4],
-    slots: &Slots,
-    time: u32x4,
-    images: &mut Vec<[u32x4; 8]>,
-) -> Result<Places, AllocError>
-    requires receivers { All (λ j. j < MOST_NODES) receivers }
-    requires slots { AreSlots trial.now.rule.k slots.now.blocks.items trial.now.edges.now slots.now.slots.items }
-    requires few { length trial.now.edges.now ≤ 2 ^ 16 }
-    ensures counted { IfOk result (λ p. (i : ℕ) → i < 4 → slice_index time i ≤ never
-        → HasCountedPlaces (hearing_of trial.now (slice_index receivers i)) (slice_index time i) i p) }
-    ensures four { IfOk result (λ p. p.doubt < 2 ^ 4) }
-{
-    deliveries_stand_in_blocks();
-    images_are_below_never();
-    let next = next_of(time);
-    let mut until = u32x4::splat(0);
-    let mut before = u32x4::splat(0);
-    for copy in 0..trial.copies {
-        let rows = rows_of(receivers, copy);
-        trial.blocks.draw(images, 1, rows, slots.blocks.as_slice())?;
-        let more = count(until, images.as_slice(), slots.slots.as_slice(), next);
-        until = more;
-        let more = count(before, images.as_slice(), slots.slots.as_slice(), time);
-        before = more;
+impl Deliveries<'_, '_, '_> {
+    /// Counts the deliveries whose images are at most a time, drawing images in place of what the list held.
+    fn count(&self, time: u32x4, images: &mut Vec<[u32x4; 8]>) -> Result<Places, AllocError>
+        ensures counted { IfOk result (λ p. (i : ℕ) → i < 4 → KnowsImages self.now i → slice_index time i ≤ never
+            → HasCountedPlaces (hearing_to self.now i) (slice_index time i) i p) }
+        ensures four { IfOk result (λ p. p.doubt < 2 ^ 4) }
+    {
+        deliveries_stand_in_blocks();
+        let next = next_of(time);
+        let mut until = u32x4::splat(0);
+        let mut before = u32x4::splat(0);
+        for copy in 0..self.trial.copies {
+            self.draw(images, copy)?;
+            let slots = self.slots.slots.as_slice();
+            let more = count(until, images.as_slice(), slots, next);
+            until = more;
+            let more = count(before, images.as_slice(), slots, time);
+            before = more;
+        }
+        let doubt = bits_of(not_next(before, until));
+        Ok(Places { until, doubt })
     }
-    let doubt = bits_of(not_next(before, until));
-    Ok(Places { until, doubt })
+
+    /// The images of a copy, in place of what the list held: those that are known, and those of the other blocks, which
+    /// are drawn.
+    fn draw(&self, images: &mut Vec<[u32x4; 8]>, copy: u8) -> Result<(), AllocError>
+        requires { copy < self.now.trial.copies }
+        ensures many { OnOk result (length images.new.items ≡ length self.now.slots.now.blocks.items) }
+        ensures each { OnOk result ((i : ℕ) → i < 4 → KnowsImages self.now i
+            → AreImagesOf (hearing_to self.now i) copy i self.now.slots.now.blocks.items images.new.items) }
+    {
+        images_are_below_never();
+        let Kept {
+            images: kept,
+            blocks,
+            known,
+        } = self.kept;
+        let (_, copies) = kept.split_at(usize::from(copy) * blocks);
+        let (first, _) = copies.split_at(known);
+        let (_, others) = self.slots.blocks.split_at(known);
+        images.clear();
+        images.extend_from_slice(first)?;
+        let rows = rows_of(self.receivers, copy);
+        self.trial.blocks.draw_more(images, 1, rows, others)?;
+        Ok(())
+    }
+}
+
+/// The images that are kept of some blocks, if there are as many as these copies have.
+fn kept_for<'a>(kept: &'a [[u32x4; 8]], blocks: &[u32], copies: u8, slots: &Slots) -> Kept<'a>
+    ensures whole { copies * result.blocks ≤ length result.images.now }
+    ensures known { result.known ≤ result.blocks }
+    ensures first { result.known ≤ length slots.now.blocks.items }
+    ensures same { (b : ℕ) → b < result.known
+        → slice_index slots.now.blocks.items b ≡ slice_index blocks.now b }
+    ensures kept { 0 < result.known → (result.images.now ≡ kept.now) × (result.blocks ≡ length blocks.now) }
+{
+    if blocks.len().checked_mul(usize::from(copies)) != Some(kept.len()) {
+        return Kept {
+            images: &[],
+            blocks: 0,
+            known: 0,
+        };
+    }
+    Kept {
+        images: kept,
+        blocks: blocks.len(),
+        known: common_len(blocks, slots.blocks.as_slice()),
+    }
+}
+
+/// How many numbers two lists have in common before they first differ.
+fn common_len(left: &[u32], right: &[u32]) -> usize
+    ensures left { result ≤ length left.now }
+    ensures right { result ≤ length right.now }
+    ensures same { (i : ℕ) → i < result → slice_index right.now i ≡ slice_index left.now i }
+{
+    let mut len = 0;
+    while len < left.len() && len < right.len() && left[len] == right[len] {
+        len += 1;
+    }
+    len
 }
 
 /// A count, and one more for each slot whose image is below a bound.

@@ -216,3 +216,18 @@ fn slots_of_edges_in_any_order(rt: HostRuntime) -> Result<(), Fail> {
     assert!(rt; are_slots(&slots, &[(0, 0), (0, 7), (1, 0), (2, 7), (3, 0)]));
     Ok(())
 }
+
+#[test]
+fn slots_after_given_blocks(rt: HostRuntime) -> Result<(), Fail> {
+    let edges = [
+        alert!(0, 0),
+        alert!(2, 1),
+        alert!(2, 2),
+        alert!(7, 2),
+        alert!(0, 0),
+    ];
+    let Slots { blocks, slots } = Slots::after(rt.alloc(), &[1, 4], 3, &edges)?;
+    assert!(rt; blocks.as_slice() == [1, 4, 0, 2, 0].as_slice());
+    assert!(rt; are_slots(&slots, &[(2, 0), (2, 7), (0, 0), (3, 7), (4, 0)]));
+    Ok(())
+}

@@ -78,9 +78,10 @@ impl Setting {
         assert!(rt; rings.len() == rule.k && rings.nodes() == roles.nodes());
         let edges = alerts(alloc, &rings, rule.k, roles)?;
         assert!(rt; edges.len() <= 1000 && rings.nodes() <= 2048);
+        let nodes = Nodes::of(alloc, &rings, rule, &edges)?;
         Ok(Setting {
-            nodes: Nodes::of(alloc, &rings, rule, &edges)?,
-            slots: Slots::of(alloc, rule.k, &edges)?,
+            slots: Slots::after(alloc, &nodes.blocks, rule.k, &edges)?,
+            nodes,
             rule,
             rings,
             edges,

@@ -141,7 +141,7 @@ impl<'a> Judges<'a> {
         };
         let wanted = wanted_nodes(alloc, &nodes, cast.roles)?;
         let wanted = wanted.as_slice();
-        let slots = all_slots(alloc, alerts)?;
+        let slots = all_slots(alloc, alerts, &nodes)?;
         let round = Round {
             cast,
             trial,
@@ -199,7 +199,7 @@ impl<'a> Judges<'a> {
     {
         let receivers = round.cast.receivers;
         let four = four_from(receivers, first);
-        self.times.hear(round.trial, four)?;
+        hear(&mut self.times, round, four)?;
         let findings = self.times.judge(round.wanted);
         let places = self.places(round, four, findings)?;
         for lane in 0..4.min(receivers.len() - first) {
@@ -348,15 +348,38 @@ fn receiver_at(receivers: &[u16], place: usize) -> u16
     receivers[place.min(receivers.len() - 1)]
 }
 
-/// The slots of all alerts of a trial, if its plan's version asks for the places of proposals.
-fn all_slots(alloc: Global, alerts: &Alerts<'_>) -> Result<Option<Slots>, AllocError>
+/// Computes the times of four receivers. If places are asked for, the images of their keys are kept for them.
+fn hear(times: &mut Receivers, round: Round<'_>, receivers: [u16; 4]) -> Result<(), AllocError>
+    requires { All (λ j. j < MOST_NODES) receivers }
+    ensures { OnOk result ((i : ℕ) → i < 4
+        → HasHeard (hearing_of round.entry.trial (slice_index receivers i))
+        (subjects_of round.entry.trial.nodes.now.nodes.items) i times.new) }
+{
+    match round.slots {
+        Some(_) => times.hear_copies(round.trial, receivers),
+        None => times.hear(round.trial, receivers),
+    }
+}
+
+/// The slots of all alerts of a trial with these nodes, if its plan's version asks for the places of proposals. Their
+/// blocks begin with those of the nodes.
+fn all_slots(
+    alloc: Global,
+    alerts: &Alerts<'_>,
+    nodes: &Nodes,
+) -> Result<Option<Slots>, AllocError>
+    requires { All (λ block. block < 2 ^ 13) nodes.now.blocks.items }
     ensures slots { IfOk result (λ found. IfSome found
         (λ s. AreSlots alerts.now.cell.k s.blocks.items alerts.now.edges.items s.slots.items)) }
     ensures unasked { IfOk result (λ found. found ≡ None → version_of alerts.now.study.plan.now.failing ≡ One) }
 {
     match alerts.study.plan.version() {
         Version::One => Ok(None),
-        Version::Two => Ok(Some(Slots::of(alloc, alerts.cell.k, alerts.edges.as_slice())?)),
+        Version::Two => {
+            let first = nodes.blocks.as_slice();
+            let edges = alerts.edges.as_slice();
+            Ok(Some(Slots::after(alloc, first, alerts.cell.k, edges)?))
+        }
     }
 }
 

@@ -1,9 +1,9 @@
 -- The times of nodes in a lane, by the keys that are drawn.
-use Rattle.std.specs.Prelude.{◌≡◌, ℕ, ◌<◌, false, List, [], map, min, max, length, slice_index, slice_index_or, Option}
+use Rattle.std.specs.Prelude.{◌≡◌, ℕ, ◌+◌, ◌*◌, ◌<◌, false, List, [], map, min, max, length, slice_index, slice_index_or, Option}
 use Rattle.std.specs.Prelude.{Some, None, ◌⊎◌}
 use Rattle.cut_detector.specs.Rule.{rule_in}
 use Rattle.cut_rings.specs.Edges.{set_of}
-use Rattle.cut_blocks.specs.Images.{never, row_of, least_image}
+use Rattle.cut_blocks.specs.Images.{never, eight, row_of, least_image}
 use Rattle.cut_lanes.specs.Lanes.{lane}
 use Rattle.cut_arrivals.specs.Hearing.{Hearing, lows_at, highs_at}
 use Rattle.cut_nodes.specs.declared.node.Node.{Node}
@@ -69,3 +69,16 @@ pub record AreHighsTo (images : Images) (n : ℕ) (highs : List (List ℕ)) : Ty
   pub known : (u : ℕ) (d : Node) → u < length highs
       → (u < n) ⊎ ((slice_index_or images.trial.nodes.now.nodes.items u d).gains ≡ false)
       → IsHigh images (slice_index_or images.trial.nodes.now.nodes.items u d).subject (slice_index_or highs u [])
+
+-- the images that are drawn for four receivers of a trial, the least over its copies
+abbrev pub AreLeast : Trial → List ℕ → List (List (List ℕ)) → Type 0
+AreLeast t receivers drawn =
+    drawn ≡ map (λ block. eight (least_image t.blocks.now t.copies block) (map (λ j. row_of 0 j) receivers))
+    t.nodes.now.blocks.items
+
+-- the images of the first copies, one after another
+pub record AreCopies (t : Trial) (receivers : List ℕ) (copies : ℕ) (drawn : List (List (List ℕ))) : Type 0 where
+  pub many : length drawn ≡ copies * length t.nodes.now.blocks.items
+  pub each : (c b : ℕ) → c < copies → b < length t.nodes.now.blocks.items
+      → slice_index_or drawn (c * length t.nodes.now.blocks.items + b) []
+      ≡ eight (least_image t.blocks.now 1 (slice_index t.nodes.now.blocks.items b)) (map (λ j. row_of c j) receivers)

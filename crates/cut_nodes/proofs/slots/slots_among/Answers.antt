@@ -4,7 +4,7 @@ use Rattle.std.proofs.lemmas.List.{take_more}
 use Rattle.cut_rings.specs.declared.edge.Edge.{Edge}
 use Rattle.cut_nodes.specs.Slots.{AreSlots}
 use Rattle.cut_nodes.specs.inside.Slots.{IsSlot}
-use Rattle.cut_nodes.proofs.SlotLemmas.{slots_more, extends_more}
+use Rattle.cut_nodes.proofs.SlotLemmas.{slots_more, extends_more, begins_still}
 use Rattle.cut_nodes.proofs.slots.slots_among.Goals as goal
 
 pub loop-edge-preserved : goal.loop-edge-preserved
@@ -25,4 +25,5 @@ loop-edge-preserved c =
           (sym c.in_ok-push.ensures.items) pushed);
       blocks = extends_more c.args.blocks.now.items olds news i 1 c.loop-edge.invariant.blocks
           c.in_ok-slot.ensures.blocks;
+      first = begins_still c.args.first.now olds news 1 c.in_ok-slot.ensures.blocks c.loop-edge.invariant.first;
     }

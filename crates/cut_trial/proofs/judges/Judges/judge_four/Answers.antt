@@ -17,8 +17,8 @@ use Rattle.cut_arrivals.specs.Hearing.{Hearing}
 use Rattle.cut_trial.proofs.Judged.{receiver_within, same_judged}
 use Rattle.cut_trial.proofs.judges.Judges.judge_four.Goals as goal
 
-pub hear-requires-clause-receivers : goal.hear-requires-clause-receivers
-hear-requires-clause-receivers c = λ k d below.
+pub hear-requires : goal.hear-requires
+hear-requires c = λ k d below.
     let cast = c.args.round.cast in
     let at = c.four_from-four.ensures.all k d below in
     let j = get_or c.four_from-four.result k d in
@@ -36,7 +36,7 @@ judge-findings-requires c =
       flags,
       length-map (subjects_of round.trial.nodes.now.nodes.items) (λ s. is_target round.cast.roles.now s),
       highs,
-      length-map c.hear.new.self.highs.items (λ v. slice_index v 0),
+      length-map c.hear.new.times.highs.items (λ v. slice_index v 0),
       length-map (subjects_of round.trial.nodes.now.nodes.items)
           (λ s. highs_at (hearing_of round.trial (slice_index c.four_from-four.result 0)) never s),
     )
@@ -56,11 +56,11 @@ judge_one-requires-clause-found c =
     let heard = c.in_ok-hear.ensures lane low in
     let finds = c.judge-findings.ensures.finds x subjects lane low heard in
     let f : Found = record { finding = c.at.result; place = c.place_in.result } in
-    let found : IsFound x version wanted (has_bit c.hear.new.self.closing.doubt lane) f = record {
+    let found : IsFound x version wanted (has_bit c.hear.new.times.closing.doubt lane) f = record {
       finds = subst (λ f. Finds wanted (members_at x) f) (sym c.at.ensures.finding) finds;
       certain = λ set. c.at.ensures.doubtful.1 (subst (λ n. IsTrue (has_bit n lane))
           (sym c.judge-findings.ensures.doubtful) set);
-      placed = found_placed x version wanted lane (has_bit c.hear.new.self.closing.doubt lane)
+      placed = found_placed x version wanted lane (has_bit c.hear.new.times.closing.doubt lane)
           c.judge-findings.result c.in_ok-places.places c.place_in.result
           low
           c.place_in.ensures.unasked c.place_in.ensures.place c.in_ok-places.ensures.unasked

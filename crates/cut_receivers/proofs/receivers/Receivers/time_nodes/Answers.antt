@@ -13,7 +13,7 @@ use Rattle.cut_nodes.specs.Nodes.{subjects_of}
 use Rattle.cut_receivers.specs.Heard.{hearing_of}
 use Rattle.cut_receivers.proofs.Bounds.{low_within, hears}
 use Rattle.cut_receivers.proofs.Placed.{lane_long, subjects_are}
-use Rattle.cut_receivers.proofs.receivers.Receivers.hear.Goals as goal
+use Rattle.cut_receivers.proofs.receivers.Receivers.time_nodes.Goals as goal
 
 pub close-self-requires-clause-pairs : goal.close-self-requires-clause-pairs
 close-self-requires-clause-pairs c =
@@ -70,4 +70,5 @@ returns c i low =
       doubt = subst (λ (xs : List ℕ). c.close-self.result.doubt / 2 ^ i % 2 ≡ cond
           (is_doubtful xs first time) 1 0) lows_are
           (c.close-self.ensures.doubt i low);
+      kept = rw (c.reserve.ensures.kept_blocks, c.reserve.ensures.kept) (c.requires.kept i low);
     }
