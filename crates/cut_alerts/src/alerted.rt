@@ -75,7 +75,7 @@ pub fn alerts_into(
     ensures few { OnOk result (length edges.new.items ≤ rings.now.nodes * k) }
     ensures err { OnErr result (edges.new.items ≡ []) }
 {
-    let filled = fill(edges, rings, k, roles);
+    let filled = list_alerts(edges, rings, k, roles);
     if filled.is_err() {
         edges.clear();
     }
@@ -83,7 +83,7 @@ pub fn alerts_into(
 }
 
 /// Replaces the content of a list by the alerted edges. After an error it is unspecified.
-fn fill(list: &mut Vec<Edge>, rings: &Rings, k: u8, roles: &Roles) -> Result<(), AllocError>
+fn list_alerts(list: &mut Vec<Edge>, rings: &Rings, k: u8, roles: &Roles) -> Result<(), AllocError>
     requires rings { k ≤ length rings.now.positions }
     requires nodes { length roles.now.roles ≡ rings.now.nodes }
     ensures { OnOk result (list.new.items ≡ alert_list rings.now roles.now k) }

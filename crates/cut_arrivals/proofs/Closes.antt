@@ -12,7 +12,7 @@ use Rattle.cut_lists.proofs.Ranges.{filter_agree_on, list_any_passing, list_any_
 use Rattle.cut_ranks.specs.Closing.{IsEnough, is_doubtful}
 use Rattle.cut_arrivals.specs.Times.{members_by, is_settled_by}
 use Rattle.cut_arrivals.specs.Rising.{IsRising}
-use Rattle.cut_arrivals.specs.Nodes.{AreTimes, AreNodes, IsClosed}
+use Rattle.cut_arrivals.specs.Candidates.{AreTimes, AreCandidates, IsClosed}
 use Rattle.cut_arrivals.proofs.Tests.{IsKept, IsTrueFrom, fails_before, turns, two_pass}
 use Rattle.cut_ranks.proofs.Ranks.{same_test}
 use Rattle.cut_detector.proofs.Places.{not_true}
@@ -47,69 +47,77 @@ settled-from n low high t is =
     list_any_passing (λ s. nat_le (high s) t) 0 n at.0 (omega arith) (omega (arith, at.1)) (le-leb _ _ at.2) in
     grind (arith, list_any_none_passing)
 
--- ---- nodes and their places in the lists
+-- ---- candidates and their places in the lists
 
 -- where a process stands in a list, and its times in others
-record StandsAt (low high : ℕ → ℕ) (nodes lows highs : List ℕ) (s u : ℕ) : Type 0 where
-  within : u < length lows
-  is : get_or nodes u 0 ≡ s
-  low_is : get_or lows u 0 ≡ low s
-  high_is : get_or highs u 0 ≡ high s
+record StandsAt (low high : ℕ → ℕ) (candidates reported_at stable_at : List ℕ) (s u : ℕ) : Type 0 where
+  within : u < length reported_at
+  is : get_or candidates u 0 ≡ s
+  low_is : get_or reported_at u 0 ≡ low s
+  high_is : get_or stable_at u 0 ≡ high s
 
-process_at : (n last : ℕ) (low high : ℕ → ℕ) (nodes lows highs : List ℕ) → AreNodes n last low high nodes lows highs
-    → (u : ℕ) → u < length lows → (s : ℕ) × (s < n) × StandsAt low high nodes lows highs s u
-process_at n last low high nodes lows highs are u within =
+process_at : (n last : ℕ) (low high : ℕ → ℕ) (candidates reported_at stable_at : List ℕ)
+    → AreCandidates n last low high candidates reported_at stable_at
+    → (u : ℕ) → u < length reported_at → (s : ℕ) × (s < n) × StandsAt low high candidates reported_at stable_at s u
+process_at n last low high candidates reported_at stable_at are u within =
     grind (arith, length-map, get_or-map)
 
-stands : (n last : ℕ) (low high : ℕ → ℕ) (nodes lows highs : List ℕ) → AreNodes n last low high nodes lows highs
-    → (s : ℕ) → s < n → low s < last → (u : ℕ) × StandsAt low high nodes lows highs s u
-stands n last low high nodes lows highs are s process early =
+stands : (n last : ℕ) (low high : ℕ → ℕ) (candidates reported_at stable_at : List ℕ)
+    → AreCandidates n last low high candidates reported_at stable_at
+    → (s : ℕ) → s < n → low s < last → (u : ℕ) × StandsAt low high candidates reported_at stable_at s u
+stands n last low high candidates reported_at stable_at are s process early =
     let at = are.each s process early in
-    let same : get_or nodes at.0 0 ≡ s = get_or_default nodes at.0 0 s at.1 ∙ at.2 in
-    let long : length lows ≡ length nodes = ap length are.lows_are ∙ length-map nodes low in (
+    let same : get_or candidates at.0 0 ≡ s = get_or_default candidates at.0 0 s at.1 ∙ at.2 in
+    let long : length reported_at ≡ length candidates = ap length are.reported_at_are ∙ length-map candidates low in (
       at.0,
       record {
         within = omega (arith, long, at.1);
         is = same;
-        low_is = ap (λ xs. get_or xs at.0 0) are.lows_are ∙ get_or-map low nodes at.0 0 0 at.1 ∙ ap low same;
-        high_is = ap (λ xs. get_or xs at.0 0) are.highs_are ∙ get_or-map high nodes at.0 0 0 at.1 ∙ ap high same;
+        low_is = ap (λ xs. get_or xs at.0 0) are.reported_at_are ∙ get_or-map low candidates at.0 0 0 at.1
+            ∙ ap low same;
+        high_is = ap (λ xs. get_or xs at.0 0) are.stable_at_are ∙ get_or-map high candidates at.0 0 0 at.1
+            ∙ ap high same;
       },
     )
 
 -- no two begin first, and none begins as all has ended
-record NoDoubt (lows : List ℕ) (first time : ℕ) : Type 0 where
-  alone : (u v : ℕ) → u < v → v < length lows → get_or lows u 0 ≡ first → get_or lows v 0 ≡ first → ⊥
-  apart : (u : ℕ) → u < length lows → first < time → get_or lows u 0 ≡ time → ⊥
+record NoDoubt (reported_at : List ℕ) (first time : ℕ) : Type 0 where
+  alone : (u v : ℕ) → u < v → v < length reported_at → get_or reported_at u 0 ≡ first → get_or reported_at v 0 ≡ first
+      → ⊥
+  apart : (u : ℕ) → u < length reported_at → first < time → get_or reported_at u 0 ≡ time → ⊥
 
-no_doubt : (lows : List ℕ) (first time : ℕ) → is_doubtful lows first time ≡ false → NoDoubt lows first time
-no_doubt lows first time certain = grind (arith, two_pass, list_any_at)
+no_doubt : (reported_at : List ℕ) (first time : ℕ) → is_doubtful reported_at first time ≡ false
+    → NoDoubt reported_at first time
+no_doubt reported_at first time certain = grind (arith, two_pass, list_any_at)
 
 -- ---- closed times
 
-module _ (n count last : ℕ) (low high tau : ℕ → ℕ) (lows highs : List ℕ) (first time : ℕ)
+module _ (n count last : ℕ) (low high tau : ℕ → ℕ) (reported_at stable_at : List ℕ) (first time : ℕ)
     (rising : IsRising (count + 1) last tau) (times : AreTimes n (count + 1) low high)
-    (closed : IsClosed n last (λ s. tau (low s)) (λ s. tau (high s)) lows highs first time) where
-  abbrev nodes : List ℕ
-  nodes = closed.nodes.0
+    (closed : IsClosed n last (λ s. tau (low s)) (λ s. tau (high s)) reported_at stable_at first time) where
+  abbrev candidates : List ℕ
+  candidates = closed.candidates.0
 
   -- where a process stands that begins in time
   place : (s : ℕ) → s < n → tau (low s) < last → (u : ℕ)
-      × StandsAt (λ s. tau (low s)) (λ s. tau (high s)) nodes lows highs s u
-  place s process early = stands n last (λ s. tau (low s)) (λ s. tau (high s)) nodes lows highs closed.nodes.1 s process
+      × StandsAt (λ s. tau (low s)) (λ s. tau (high s)) candidates reported_at stable_at s u
+  place s process early = stands n last (λ s. tau (low s)) (λ s. tau (high s)) candidates reported_at stable_at
+      closed.candidates.1 s process
       early
 
-  at_place : (u : ℕ) → u < length lows → (s : ℕ) × (s < n)
-      × StandsAt (λ s. tau (low s)) (λ s. tau (high s)) nodes lows highs s u
-  at_place u within = process_at n last (λ s. tau (low s)) (λ s. tau (high s)) nodes lows highs closed.nodes.1 u within
+  at_place : (u : ℕ) → u < length reported_at → (s : ℕ) × (s < n)
+      × StandsAt (λ s. tau (low s)) (λ s. tau (high s)) candidates reported_at stable_at s u
+  at_place u within = process_at n last (λ s. tau (low s)) (λ s. tau (high s)) candidates reported_at stable_at
+      closed.candidates.1 u within
 
-  undoubted : NoDoubt lows first time
-  undoubted = no_doubt lows first time closed.certain
+  undoubted : NoDoubt reported_at first time
+  undoubted = no_doubt reported_at first time closed.certain
 
   -- none begins before the first
   first_is_least : (s : ℕ) → s < n → tau (low s) < last → first ≤ tau (low s)
   first_is_least s process early =
       let u = place s process early in
-      let least : first ≤ get_or lows u.0 0 = closed.least.below u.0 u.1.within in
+      let least : first ≤ get_or reported_at u.0 0 = closed.least.below u.0 u.1.within in
       omega (arith, least, u.1.low_is)
 
   -- and but one begins then
@@ -123,7 +131,7 @@ module _ (n count last : ℕ) (low high tau : ℕ → ℕ) (lows highs : List �
           | inl more ↦ undoubted.alone v.0 u.0 more u.1.within (v.1.low_is ∙ same) (u.1.low_is ∙ at)
           | inr not_more ↦ (
               let places : u.0 ≡ v.0 = omega (arith, not_less, not_more) in
-              let equal : s ≡ p = sym u.1.is ∙ ap (λ k. get_or nodes k 0) places ∙ v.1.is in
+              let equal : s ≡ p = sym u.1.is ∙ ap (λ k. get_or candidates k 0) places ∙ v.1.is in
               let lows_equal : low s ≡ low p = ap low equal in
               omega (arith, before, lows_equal))
         ]
@@ -158,11 +166,11 @@ module _ (n count last : ℕ) (low high tau : ℕ → ℕ) (lows highs : List �
         at_first)
   ]
 
-  settled_is_enough : (t : ℕ) → t < count + 1 → IsSettledBy n low high t → IsEnough first lows highs (tau t)
+  settled_is_enough : (t : ℕ) → t < count + 1 → IsSettledBy n low high t → IsEnough first reported_at stable_at (tau t)
   settled_is_enough t low_t settled = record {
     begun = λ u within by_first.
         let s = at_place u within in
-        let least : first ≤ get_or lows u 0 = closed.least.below u within in
+        let least : first ≤ get_or reported_at u 0 = closed.least.below u within in
         let come : low s.0 ≤ t = first_come t low_t settled s.0 s.1 (omega (arith, by_first, least, s.2.low_is)) in
         let ended : tau (high s.0) ≤ tau t = rising.rises (high s.0) t (settled.others s.0 s.1 come) in
         omega (arith, ended, s.2.high_is);
@@ -178,7 +186,7 @@ module _ (n count last : ℕ) (low high tau : ℕ → ℕ) (lows highs : List �
   }
 
   pub closing_before : (t : ℕ) → t < count + 1 → IsSettledBy n low high t → time ≤ tau t
-  closing_before t low_t settled = closed.closing.least (tau t) (settled_is_enough t low_t settled)
+  closing_before t low_t settled = closed.proposal_time.least (tau t) (settled_is_enough t low_t settled)
 
   -- ---- the last time that the closing one stands for is settled
 
@@ -221,9 +229,10 @@ module _ (n count last : ℕ) (low high tau : ℕ → ℕ) (lows highs : List �
   first_ended : time < last → (s : ℕ) × (s < n) × (high s < turn)
   first_ended ends =
       let at = closed.least.among in
-      let at_first : get_or lows at.0 0 ≡ first = get_or_default lows at.0 0 first at.1 ∙ at.2 in
+      let at_first : get_or reported_at at.0 0 ≡ first = get_or_default reported_at at.0 0 first at.1 ∙ at.2 in
       let s = at_place at.0 at.1 in
-      let ended : get_or highs at.0 0 ≤ time = closed.closing.enough.begun at.0 at.1 (omega (arith, at_first)) in
+      let ended : get_or stable_at at.0 0 ≤ time = closed.proposal_time.enough.begun at.0 at.1
+          (omega (arith, at_first)) in
       (s.0, s.1, before_turn ends (high s.0) (times.within s.0 s.1) (omega (arith, ended, s.2.high_is)))
 
   -- and so has each that begins by then
@@ -231,11 +240,11 @@ module _ (n count last : ℕ) (low high tau : ℕ → ℕ) (lows highs : List �
   begun_ended ends s process begun =
       let come : tau (low s) ≤ time = by_time (low s) begun in
       let u = place s process (omega (arith, come, ends)) in
-      let ended : get_or highs u.0 0 ≤ time = elim (cases_lt (get_or lows u.0 0) time) [
-        | inl before ↦ closed.closing.enough.before u.0 u.1.within before
+      let ended : get_or stable_at u.0 0 ≤ time = elim (cases_lt (get_or reported_at u.0 0) time) [
+        | inl before ↦ closed.proposal_time.enough.before u.0 u.1.within before
         | inr at_time ↦ elim (cases_lt first time) [
           | inl late ↦ absurd (undoubted.apart u.0 u.1.within late (omega (arith, at_time, come, u.1.low_is)))
-          | inr not_late ↦ closed.closing.enough.begun u.0 u.1.within (omega (arith, not_late, come, u.1.low_is))
+          | inr not_late ↦ closed.proposal_time.enough.begun u.0 u.1.within (omega (arith, not_late, come, u.1.low_is))
         ]
       ] in
       before_turn ends (high s) (times.within s process) (omega (arith, ended, u.1.high_is))
@@ -334,13 +343,13 @@ module _ (n count last : ℕ) (low high tau : ℕ → ℕ) (lows highs : List �
       ∙ sym (ap (λ b. cond b (Some (make (members_by n (λ s. tau (high s)) time) place)) None)
       (lt-ltb time last (first_settled m is).0))
 
-pub closes_as_settled : (n count last : ℕ) (low high tau : ℕ → ℕ) (lows highs : List ℕ) (first time : ℕ)
+pub closes_as_settled : (n count last : ℕ) (low high tau : ℕ → ℕ) (reported_at stable_at : List ℕ) (first time : ℕ)
     → IsRising (count + 1) last tau → AreTimes n (count + 1) low high
-    → IsClosed n last (λ s. tau (low s)) (λ s. tau (high s)) lows highs first time
+    → IsClosed n last (λ s. tau (low s)) (λ s. tau (high s)) reported_at stable_at first time
     → option_map (λ t. members_by n high t) (find (λ t. is_settled_by n low high t) (range_with_len 1 count))
     ≡ cond (nat_lt time last) (Some (members_by n (λ s. tau (high s)) time)) None
-closes_as_settled n count last low high tau lows highs first time rising times closed =
-    closes n count last low high tau lows highs first time rising times closed (λ ms _. ms) 0 (λ _ _ _. refl)
+closes_as_settled n count last low high tau reported_at stable_at first time rising times closed =
+    closes n count last low high tau reported_at stable_at first time rising times closed (λ ms _. ms) 0 (λ _ _ _. refl)
     (find (λ t. is_settled_by n low high t) (range_with_len 1 count))
     (found_first (λ t. is_settled_by n low high t) 1 count)
 

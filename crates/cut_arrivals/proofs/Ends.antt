@@ -17,8 +17,9 @@ use Rattle.cut_draws.specs.DeliveryOrder.{all_deliveries}
 use Rattle.cut_detector.specs.Counts.{is_reported, is_full, is_stable}
 use Rattle.cut_blocks.specs.Images.{ImagesAreBelowNever}
 use Rattle.cut_arrivals.specs.Times.{EdgeTimes, ComesAt, low_of, full_time, high_of, members_by, is_settled_by}
-use Rattle.cut_arrivals.specs.Hearing.{Hearing, IsHearing, deliveries_of, proposal_at, image_of, first_times, lows_at}
-use Rattle.cut_arrivals.specs.Hearing.{highs_at}
+use Rattle.cut_arrivals.specs.Reception.{Reception, IsReception, deliveries_of, proposal_at, image_of, first_times}
+use Rattle.cut_arrivals.specs.Reception.{lows_at}
+use Rattle.cut_arrivals.specs.Reception.{highs_at}
 use Rattle.cut_arrivals.proofs.Modes.{reported_from_low, counts_from_full, stable_from_high}
 use Rattle.cut_arrivals.proofs.Found.{proposed, proposes_by_times}
 use Rattle.cut_arrivals.proofs.FirstTimes.{first_come}
@@ -49,7 +50,7 @@ any_delivered edges copies ring s some =
 before_end : (a end : ℕ) → 1 ≤ end → nat_le a (end - 1) ≡ nat_lt a end
 before_end a end some = grind (arith, nat_tests)
 
-module _ (x : Hearing) (is : IsHearing x) (some : 1 ≤ x.copies) (end : ℕ) (time : Delivery → ℕ) (ends : 1 ≤ end)
+module _ (x : Reception) (is : IsReception x) (some : 1 ≤ x.copies) (end : ℕ) (time : Delivery → ℕ) (ends : 1 ≤ end)
     (before : All (λ y. time y < end) (deliveries_of x)) where
   abbrev at : EdgeTimes
   at = first_times end time (deliveries_of x)
@@ -100,26 +101,27 @@ module _ (x : Hearing) (is : IsHearing x) (some : 1 ≤ x.copies) (end : ℕ) (t
       ∙ sym (stable_from_high x.layout x.rule end come at comes (end - 1) s (omega (arith, ends)) process)
       ∙ ap (λ (E : EdgeSet). is_stable x.layout x.rule E s) reached
 
-pub images_before : ImagesAreBelowNever → (x : Hearing) (last : ℕ) → 2 ^ 30 ≤ last
+pub images_before : ImagesAreBelowNever → (x : Reception) (last : ℕ) → 2 ^ 30 ≤ last
     → All (λ y. image_of x y < last) (deliveries_of x)
 images_before below x last wide = grind arith
 
-pub ends_reported_alike : ImagesAreBelowNever → (x : Hearing) (last : ℕ) → IsHearing x → 1 ≤ x.copies → 2 ^ 30 ≤ last
+pub ends_reported_alike : ImagesAreBelowNever → (x : Reception) (last : ℕ) → IsReception x → 1 ≤ x.copies
+    → 2 ^ 30 ≤ last
     → (s : ℕ) → s < x.layout.nodes → nat_lt (lows_at x last s) last ≡ is_reported x.rule (set_of x.edges) s
 ends_reported_alike below x last is some wide =
     ends_reported x is some last (image_of x) (omega (arith, wide)) (images_before below x last wide)
 
-pub ends_stable_alike : ImagesAreBelowNever → (x : Hearing) (last : ℕ) → IsHearing x → 1 ≤ x.copies → 2 ^ 30 ≤ last
+pub ends_stable_alike : ImagesAreBelowNever → (x : Reception) (last : ℕ) → IsReception x → 1 ≤ x.copies → 2 ^ 30 ≤ last
     → (s : ℕ) → s < x.layout.nodes → nat_lt (highs_at x last s) last ≡ is_stable x.layout x.rule (set_of x.edges) s
 ends_stable_alike below x last is some wide =
     ends_stable x is some last (image_of x) (omega (arith, wide)) (images_before below x last wide)
 
 -- ---- no proposal where none ends stable
 
-some_copy : (x : Hearing) (m : ℕ) → 1 ≤ m → m < 1 + length (deliveries_of x) → 1 ≤ x.copies
+some_copy : (x : Reception) (m : ℕ) → 1 ≤ m → m < 1 + length (deliveries_of x) → 1 ≤ x.copies
 some_copy x m some below = grind arith
 
-pub silent : (x : Hearing) → IsHearing x → ((s : ℕ) → s < x.layout.nodes
+pub silent : (x : Reception) → IsReception x → ((s : ℕ) → s < x.layout.nodes
     → IsTrue (is_stable x.layout x.rule (set_of x.edges) s) → ⊥)
     → proposal_at x ≡ None
 silent x is none =

@@ -10,8 +10,8 @@ use Rattle.cut_lists.proofs.Ranges.{Contains-filter_of, Contains_filter, filter_
 use Rattle.cut_lists.proofs.Ranges.{list_any_passing, none_passing, passing}
 use Rattle.cut_blocks.specs.Images.{ImagesAreBelowNever}
 use Rattle.cut_arrivals.specs.Times.{members_by}
-use Rattle.cut_arrivals.specs.Nodes.{AreNodes}
-use Rattle.cut_arrivals.specs.Hearing.{Hearing, IsHearing, lows_at, highs_at}
+use Rattle.cut_arrivals.specs.Candidates.{AreCandidates}
+use Rattle.cut_arrivals.specs.Reception.{Reception, IsReception, lows_at, highs_at}
 use Rattle.cut_arrivals.proofs.Tests.{both_imply, lt_is_not_le}
 use Rattle.cut_arrivals.proofs.Heard.{high_places, highs_same, low_places, lows_same, places_are_times, to_image}
 use Rattle.cut_arrivals.proofs.Heard.{to_image_rises}
@@ -50,15 +50,16 @@ member n time high p process =
     (λ e. has (members_by n high time) p (Contains_filter (λ s. nat_le (high s) time) 0 n p
     (record { from = omega arith; below = omega (arith, process); passes = e })))
 
-module _ (n last time : ℕ) (low high : ℕ → ℕ) (nodes lows highs : List ℕ) (is_target : ℕ → Bool)
-    (are : AreNodes n last low high nodes lows highs) (ordered : (s : ℕ) → s < n → low s ≤ high s) (ends : time < last)
+module _ (n last time : ℕ) (low high : ℕ → ℕ) (candidates reported_at stable_at : List ℕ) (is_target : ℕ → Bool)
+    (are : AreCandidates n last low high candidates reported_at stable_at) (ordered : (s : ℕ) → s < n → low s ≤ high s)
+    (ends : time < last)
   where
-    -- a target that isn't among the members, one that is no node, and a node that ends later
+    -- a target that isn't among the members, one that is no candidate, and a candidate that ends later
     abbrev is_missed : ℕ → Bool
     is_missed p = is_target p && not (list_any (λ m. m == p) (members_by n high time))
 
     abbrev is_outside : ℕ → Bool
-    is_outside p = is_target p && not (list_any (λ m. m == p) nodes)
+    is_outside p = is_target p && not (list_any (λ m. m == p) candidates)
 
     abbrev is_late : ℕ → Bool
     is_late p = is_target p && nat_lt time (high p)
@@ -69,38 +70,39 @@ module _ (n last time : ℕ) (low high : ℕ → ℕ) (nodes lows highs : List �
 
     outside_is_late : (p : ℕ) → p < n → is_outside p ≡ true → is_late p ≡ true
     outside_is_late p process outside =
-        let parts = and_parts (is_target p) (not (list_any (λ m. m == p) nodes)) outside in
+        let parts = and_parts (is_target p) (not (list_any (λ m. m == p) candidates)) outside in
         elim (cases_lt (low p) last) [
-          | inl early ↦ absurd (both_ways _ (not_true _ parts.1) (has nodes p (are.each p process early)))
+          | inl early ↦ absurd (both_ways _ (not_true _ parts.1) (has candidates p (are.each p process early)))
           | inr never ↦ (let up : low p ≤ high p = ordered p process in
               and_from _ _ parts.0 (lt-ltb time (high p) (omega (arith, never, up, ends))))
         ]
 
-    late_shown : (p : ℕ) → p < n → is_late p ≡ true → list_any is_outside (range_with_len 0 n) || list_any is_late nodes
+    late_shown : (p : ℕ) → p < n → is_late p ≡ true → list_any is_outside (range_with_len 0 n)
+        || list_any is_late candidates
         ≡ true
-    late_shown p process late = elim (cases_Bool (list_any (λ m. m == p) nodes)) [
+    late_shown p process late = elim (cases_Bool (list_any (λ m. m == p) candidates)) [
       | inl inside ↦ or_right (list_any is_outside (range_with_len 0 n)) _
-          (any_contained is_late nodes p (contains nodes p inside) late)
+          (any_contained is_late candidates p (contains candidates p inside) late)
       | inr outside ↦ or_left (list_any is_outside (range_with_len 0 n)) _
           (list_any_passing is_outside 0 n p (omega arith) (omega (arith, process))
-          (and_from (is_target p) (not (list_any (λ m. m == p) nodes)) (and_parts (is_target p) _ late).0
+          (and_from (is_target p) (not (list_any (λ m. m == p) candidates)) (and_parts (is_target p) _ late).0
           (ap not outside)))
     ]
 
-    shown_late : list_any is_outside (range_with_len 0 n) || list_any is_late nodes ≡ true
+    shown_late : list_any is_outside (range_with_len 0 n) || list_any is_late candidates ≡ true
         → list_any is_late (range_with_len 0 n) ≡ true
     shown_late reported = elim (or_cases (list_any is_outside (range_with_len 0 n)) _ reported) [
       | inl outside ↦ (let at = passing is_outside 0 n outside in
           let process : at.0 < n = (let w = at.1.below in omega arith) in
           list_any_passing is_late 0 n at.0 (omega arith) (omega (arith, process))
           (outside_is_late at.0 process at.1.passes))
-      | inr late ↦ (let at = some_passes is_late nodes late in
-          let process : at.0 < n = All-contains (λ s. s < n) nodes at.0 are.processes at.1.contained in
+      | inr late ↦ (let at = some_passes is_late candidates late in
+          let process : at.0 < n = All-contains (λ s. s < n) candidates at.0 are.processes at.1.contained in
           list_any_passing is_late 0 n at.0 (omega arith) (omega (arith, process)) at.1.passes)
     ]
 
     pub lacking : list_any is_missed (range_with_len 0 n) ≡ list_any is_outside (range_with_len 0 n)
-        || list_any is_late nodes
+        || list_any is_late candidates
     lacking =
         list_any_agree is_missed is_late 0 n (record { same = λ p _ below. missed_is_late p (omega (arith, below)) })
         ∙ both_imply _ _
@@ -114,24 +116,24 @@ module _ (n last time : ℕ) (low high : ℕ → ℕ) (nodes lows highs : List �
     abbrev has_ended : ℕ → Bool
     has_ended p = not (is_target p) && nat_le (high p) time
 
-    pub other : list_any (λ p. not (is_target p)) (members_by n high time) ≡ list_any has_ended nodes
+    pub other : list_any (λ p. not (is_target p)) (members_by n high time) ≡ list_any has_ended candidates
     other = both_imply _ _
         (λ e. let at = some_passes (λ p. not (is_target p)) (members_by n high time) e in
         let found = Contains-filter_of (λ s. nat_le (high s) time) 0 n at.0 at.1.contained in
         let process : at.0 < n = (let w = found.below in omega arith) in
         let up : low at.0 ≤ high at.0 = ordered at.0 process in
         let ended : high at.0 ≤ time = leb-true _ _ found.passes in
-        any_contained has_ended nodes at.0 (are.each at.0 process (omega (arith, up, ended, ends)))
+        any_contained has_ended candidates at.0 (are.each at.0 process (omega (arith, up, ended, ends)))
         (and_from (not (is_target at.0)) _ at.1.passes found.passes))
-        (λ e. let at = some_passes has_ended nodes e in
-        let process : at.0 < n = All-contains (λ s. s < n) nodes at.0 are.processes at.1.contained in
+        (λ e. let at = some_passes has_ended candidates e in
+        let process : at.0 < n = All-contains (λ s. s < n) candidates at.0 are.processes at.1.contained in
         let parts = and_parts (not (is_target at.0)) (nat_le (high at.0) time) at.1.passes in
         any_contained (λ p. not (is_target p)) (members_by n high time) at.0
         (Contains_filter (λ s. nat_le (high s) time) 0 n at.0
         (record { from = omega arith; below = omega (arith, process); passes = parts.1 }))
         parts.0)
 
-images_ordered : ImagesAreBelowNever → (x : Hearing) (last : ℕ) → IsHearing x → 2 ^ 30 ≤ last → (s : ℕ) → s
+images_ordered : ImagesAreBelowNever → (x : Reception) (last : ℕ) → IsReception x → 2 ^ 30 ≤ last → (s : ℕ) → s
     < x.layout.nodes → lows_at x last s ≤ highs_at x last s
 images_ordered below x last is wide s process =
     let up : to_image x last (low_places x s) ≤ to_image x last (high_places x s) =
@@ -143,24 +145,28 @@ images_ordered below x last is wide s process =
     (highs_same x last below is wide) in
     omega (arith, up, low, high)
 
-pub nodes_show_lacking : ImagesAreBelowNever → (x : Hearing) (last time : ℕ) (nodes lows highs : List ℕ)
-    (is_target : ℕ → Bool) → IsHearing x → 2 ^ 30 ≤ last
-    → AreNodes x.layout.nodes last (lows_at x last) (highs_at x last) nodes lows highs → time < last
+pub candidates_show_lacking : ImagesAreBelowNever → (x : Reception) (last time : ℕ)
+    (candidates reported_at stable_at : List ℕ)
+    (is_target : ℕ → Bool) → IsReception x → 2 ^ 30 ≤ last
+    → AreCandidates x.layout.nodes last (lows_at x last) (highs_at x last) candidates reported_at stable_at
+    → time < last
     → list_any (λ p. is_target p && not (list_any (λ m. m == p) (members_by x.layout.nodes (highs_at x last) time)))
     (range_with_len 0 x.layout.nodes)
-    ≡ list_any (λ p. is_target p && not (list_any (λ m. m == p) nodes)) (range_with_len 0 x.layout.nodes)
-    || list_any (λ p. is_target p && nat_lt time (highs_at x last p)) nodes
-nodes_show_lacking below x last time nodes lows highs is_target is wide are ends =
-    lacking x.layout.nodes last time (lows_at x last) (highs_at x last) nodes lows highs is_target are
+    ≡ list_any (λ p. is_target p && not (list_any (λ m. m == p) candidates)) (range_with_len 0 x.layout.nodes)
+    || list_any (λ p. is_target p && nat_lt time (highs_at x last p)) candidates
+candidates_show_lacking below x last time candidates reported_at stable_at is_target is wide are ends =
+    lacking x.layout.nodes last time (lows_at x last) (highs_at x last) candidates reported_at stable_at is_target are
     (images_ordered below x last is wide) ends
 
-pub nodes_show_other : ImagesAreBelowNever → (x : Hearing) (last time : ℕ) (nodes lows highs : List ℕ)
-    (is_target : ℕ → Bool) → IsHearing x → 2 ^ 30 ≤ last
-    → AreNodes x.layout.nodes last (lows_at x last) (highs_at x last) nodes lows highs → time < last
+pub candidates_show_other : ImagesAreBelowNever → (x : Reception) (last time : ℕ)
+    (candidates reported_at stable_at : List ℕ)
+    (is_target : ℕ → Bool) → IsReception x → 2 ^ 30 ≤ last
+    → AreCandidates x.layout.nodes last (lows_at x last) (highs_at x last) candidates reported_at stable_at
+    → time < last
     → list_any (λ p. not (is_target p)) (members_by x.layout.nodes (highs_at x last) time)
-    ≡ list_any (λ p. not (is_target p) && nat_le (highs_at x last p) time) nodes
-nodes_show_other below x last time nodes lows highs is_target is wide are ends =
-    other x.layout.nodes last time (lows_at x last) (highs_at x last) nodes lows highs is_target are
+    ≡ list_any (λ p. not (is_target p) && nat_le (highs_at x last p) time) candidates
+candidates_show_other below x last time candidates reported_at stable_at is_target is wide are ends =
+    other x.layout.nodes last time (lows_at x last) (highs_at x last) candidates reported_at stable_at is_target are
     (images_ordered below x last is wide) ends
 
 -- ---- members that are just the targets

@@ -12,7 +12,7 @@ use Rattle.cut_draws.specs.DeliveryOrder.{copies_of}
 use Rattle.cut_blocks.specs.Images.{DeliveriesStandInBlocks, CopiesAreApart, image_at, never, place_in, row_of}
 unfoldable use Rattle.cut_blocks.specs.Images.{least_image}
 use Rattle.cut_ranks.specs.Ranks.{rank_at}
-use Rattle.cut_arrivals.specs.Hearing.{Hearing, deliveries_of, image_of, images_at}
+use Rattle.cut_arrivals.specs.Reception.{Reception, deliveries_of, image_of, images_at}
 use Rattle.cut_arrivals.proofs.RankLemmas.{rank_is}
 use Rattle.cut_arrivals.proofs.FirstTimes.{first_come}
 use Rattle.cut_ranks.proofs.Ranks.{one_rank}
@@ -34,7 +34,7 @@ any_same : {X : Type 0} (p q : X → Bool) (b : Bool) (xs : List X) → ((x : X)
 any_same p q b [] same = refl
 any_same p q b (x ∷ xs) same = with_rest (p x) (q x) b _ (list_any p xs) (same x) (any_same p q b xs same)
 
-module _ (x : Hearing) (blocks : DeliveriesStandInBlocks) (rows : CopiesAreApart) (ring s : ℕ) where
+module _ (x : Reception) (blocks : DeliveriesStandInBlocks) (rows : CopiesAreApart) (ring s : ℕ) where
   abbrev number : ℕ
   number = s * x.rule.k + ring
 
@@ -93,7 +93,7 @@ module _ (x : Hearing) (blocks : DeliveriesStandInBlocks) (rows : CopiesAreApart
             ∙ ap (λ b. b || list_any (λ c. nat_le (of_copy c) t) (range_with_len 0 x.copies)) (lt-leb never t low));
       })
 
-pub images_are_least : DeliveriesStandInBlocks → CopiesAreApart → (x : Hearing) (ring s : ℕ) → set_of x.edges ring s
+pub images_are_least : DeliveriesStandInBlocks → CopiesAreApart → (x : Reception) (ring s : ℕ) → set_of x.edges ring s
     ≡ true
     → images_at x never ring s
     ≡ least_image x.source x.copies (edge_number x.rule.k (record { ring = ring; subject = s }) / 8)

@@ -12,8 +12,9 @@ use Rattle.cut_rings.specs.Edges.{is_edge}
 use Rattle.cut_draws.specs.declared.delivery.Delivery.{Delivery}
 use Rattle.cut_blocks.specs.Images.{ImagesAreBelowNever}
 use Rattle.cut_arrivals.specs.Times.{members_by, is_settled_by}
-use Rattle.cut_arrivals.specs.Nodes.{IsClosed}
-use Rattle.cut_arrivals.specs.Hearing.{Hearing, IsHearing, deliveries_of, proposal_at, image_of, lows_at, highs_at}
+use Rattle.cut_arrivals.specs.Candidates.{IsClosed}
+use Rattle.cut_arrivals.specs.Reception.{Reception, IsReception, deliveries_of, proposal_at, image_of, lows_at}
+use Rattle.cut_arrivals.specs.Reception.{highs_at}
 use Rattle.cut_arrivals.proofs.RankLemmas.{rank_keeps}
 use Rattle.cut_arrivals.proofs.Kept.{high_keeps}
 use Rattle.cut_arrivals.proofs.Found.{proposed, proposes_by_times}
@@ -23,10 +24,10 @@ use Rattle.cut_arrivals.proofs.Heard.{highs_same, image_first, low_places, place
 use Rattle.cut_arrivals.proofs.Heard.{places_come, to_image, to_image_is, to_image_rises}
 
 -- a time at which some delivery comes
-abbrev IsPlace : Hearing → ℕ → Type 0
+abbrev IsPlace : Reception → ℕ → Type 0
 IsPlace x t = (y : Delivery) × Contains (deliveries_of x) y × (place_of x y ≡ t)
 
-edge_keeps : (x : Hearing) (ring s : ℕ) → places_at x ring s < end_of x → IsPlace x (places_at x ring s)
+edge_keeps : (x : Reception) (ring s : ℕ) → places_at x ring s < end_of x → IsPlace x (places_at x ring s)
 edge_keeps x ring s less =
     rank_keeps (IsPlace x) (end_of x) 1 (map (place_of x) (filter (λ y. is_edge ring s y.edge) (deliveries_of x)))
     (omega arith)
@@ -36,7 +37,7 @@ edge_keeps x ring s less =
     less
 
 -- the first settled time is the place of some delivery
-first_is_place : (x : Hearing) → IsHearing x → (m : ℕ)
+first_is_place : (x : Reception) → IsReception x → (m : ℕ)
     → IsFirst (λ t. is_settled_by x.layout.nodes (low_places x) (high_places x) t) 1 (length (deliveries_of x)) m
     → IsPlace x m
 first_is_place x is m first =
@@ -49,15 +50,15 @@ first_is_place x is m first =
     (found.0, found.1, found.2 ∙ at.2)
 
 -- what comes before a delivery has no greater image
-sooner_lesser : (x : Hearing) (y z : Delivery) → is_lt (compare_at x z y) ≡ true → image_of x z ≤ image_of x y
+sooner_lesser : (x : Reception) (y z : Delivery) → is_lt (compare_at x z y) ≡ true → image_of x z ≤ image_of x y
 sooner_lesser x y z sooner = grind arith
 
-image_or_sooner : (x : Hearing) (y : Delivery) (time : ℕ) → image_of x y ≡ time → (z : Delivery)
+image_or_sooner : (x : Reception) (y : Delivery) (time : ℕ) → image_of x y ≡ time → (z : Delivery)
     → nat_le (image_of x z) time || false ≡ true → is_lt (compare_at x z y) || (image_of x z == time) ≡ true
 image_or_sooner x y time at z e = grind (arith, image_first, leb-true, eq-eqb)
 
 -- the place of the only delivery of an image is how many images are up to it
-place_counted : (x : Hearing) (y : Delivery) (time : ℕ) → Contains (deliveries_of x) y → image_of x y ≡ time
+place_counted : (x : Reception) (y : Delivery) (time : ℕ) → Contains (deliveries_of x) y → image_of x y ≡ time
     → count_by (λ z. image_of x z == time) (deliveries_of x) ≤ 1
     → place_of x y ≡ count_by (λ z. nat_le (image_of x z) time) (deliveries_of x)
 place_counted x y time at is alone =
@@ -67,26 +68,28 @@ place_counted x y time at is alone =
     search (arith, counts-into, both_ways, image_or_sooner) in
     grind (arith, count_less, sooner_lesser, le-leb)
 
-pub closes_at_place : ImagesAreBelowNever → (x : Hearing) (last : ℕ) (lows highs : List ℕ) (first time : ℕ)
-    → IsHearing x → 2 ^ 30 ≤ last
-    → IsClosed x.layout.nodes last (lows_at x last) (highs_at x last) lows highs first time
+pub closes_at_place : ImagesAreBelowNever → (x : Reception) (last : ℕ) (reported_at stable_at : List ℕ) (first time : ℕ)
+    → IsReception x → 2 ^ 30 ≤ last
+    → IsClosed x.layout.nodes last (lows_at x last) (highs_at x last) reported_at stable_at first time
     → count_by (λ y. image_of x y == time) (deliveries_of x) ≤ 1
     → proposal_at x ≡ cond (nat_lt time last)
     (Some (proposed (members_by x.layout.nodes (highs_at x last) time)
     (count_by (λ y. nat_le (image_of x y) time) (deliveries_of x)))) None
-closes_at_place below x last lows highs first time is wide closed alone =
+closes_at_place below x last reported_at stable_at first time is wide closed alone =
     let n : ℕ = x.layout.nodes in
     let count : ℕ = length (deliveries_of x) in
     let place : ℕ = count_by (λ y. nat_le (image_of x y) time) (deliveries_of x) in
     let tau : ℕ → ℕ = to_image x last in
     let rising = to_image_rises x last below wide in
     let times = places_are_times x is in
-    let moved = closed_places x last lows highs first time below is wide closed in
+    let moved = closed_places x last reported_at stable_at first time below is wide closed in
     proposes_by_times x.layout x.rule count (heard_by x) (places_at x) (places_come x is)
-    ∙ closes n count last (low_places x) (high_places x) tau lows highs first time rising times moved proposed place
+    ∙ closes n count last (low_places x) (high_places x) tau reported_at stable_at first time rising times moved
+    proposed place
     (λ m found ms.
     let at = first_is_place x is m found in
-    let stands_for = first_settled n count last (low_places x) (high_places x) tau lows highs first time rising times
+    let stands_for = first_settled n count last (low_places x) (high_places x) tau reported_at stable_at first time
+        rising times
     moved m found in
     let image : image_of x at.0 ≡ time = sym (to_image_is x last below wide at.0 at.1) ∙ ap tau at.2 ∙ stands_for.1 in
     ap (proposed ms) (sym at.2 ∙ place_counted x at.0 time at.1 image alone))

@@ -14,8 +14,8 @@ use Rattle.cut_blocks.specs.Images.{ImagesAreBelowNever}
 use Rattle.cut_ranks.specs.Ranks.{IsRank}
 use Rattle.cut_arrivals.specs.Times.{times_to}
 unfoldable use Rattle.cut_arrivals.specs.Times.{low_of, full_time, high_of}
-use Rattle.cut_arrivals.specs.Nodes.{AreNodes}
-use Rattle.cut_arrivals.specs.Hearing.{Hearing, IsHearing, deliveries_of, image_of, images_at, lows_at, highs_at}
+use Rattle.cut_arrivals.specs.Candidates.{AreCandidates}
+use Rattle.cut_arrivals.specs.Reception.{Reception, IsReception, deliveries_of, image_of, images_at, lows_at, highs_at}
 use Rattle.cut_arrivals.specs.Values.{ArePresent, AreFullTimes}
 use Rattle.cut_arrivals.proofs.RankLemmas.{rank_is, rank_of_alike}
 use Rattle.cut_arrivals.proofs.FirstTimes.{count_filter}
@@ -45,16 +45,16 @@ come_alike f p k t rings moved later =
 
 -- ---- images
 
-images_within : (x : Hearing) (last ring s : ℕ) → images_at x last ring s ≤ last
+images_within : (x : Reception) (last ring s : ℕ) → images_at x last ring s ≤ last
 images_within x last ring s = (rank_is last 1 (map (image_of x)
     (filter (λ y. is_edge ring s y.edge) (deliveries_of x)))).within
 
-others_late : ImagesAreBelowNever → (x : Hearing) (last ring s : ℕ) → IsHearing x → 1 ≤ x.copies → 2 ^ 30 ≤ last
+others_late : ImagesAreBelowNever → (x : Reception) (last ring s : ℕ) → IsReception x → 1 ≤ x.copies → 2 ^ 30 ≤ last
     → set_of x.edges ring s ≡ false → last ≤ images_at x last ring s
 others_late below x last ring s is some wide none =
     grind (arith, ends_come x is some last (image_of x))
 
-pub others_never_come : ImagesAreBelowNever → (x : Hearing) (last ring s : ℕ) → IsHearing x → 1 ≤ x.copies → 2 ^ 30
+pub others_never_come : ImagesAreBelowNever → (x : Reception) (last ring s : ℕ) → IsReception x → 1 ≤ x.copies → 2 ^ 30
     ≤ last
     → set_of x.edges ring s ≡ false → images_at x last ring s ≡ last
 others_never_come below x last ring s is some wide none =
@@ -72,7 +72,7 @@ ungained true true false at low its last within one other none =
     grind arith
 ungained true true true at low its last within one other none = absurd (both_ways true none refl)
 
-pub ungained_by_image : ImagesAreBelowNever → (x : Hearing) (last ring s : ℕ) → IsHearing x → 1 ≤ x.copies → 2 ^ 30
+pub ungained_by_image : ImagesAreBelowNever → (x : Reception) (last ring s : ℕ) → IsReception x → 1 ≤ x.copies → 2 ^ 30
     ≤ last
     → ring < x.rule.k → s < x.layout.nodes → is_gained x.layout x.rule (set_of x.edges) ring s ≡ false
     → full_time last x.layout x.rule (images_at x last) ring s ≡ images_at x last ring s
@@ -86,13 +86,13 @@ ungained_by_image below x last ring s is some wide in_rule process none =
     (ends_reported_alike below x last is some wide s process) (ends_reported_alike below x last is some wide o observer)
     none
 
-pub gained_by_lows : (x : Hearing) (last ring s : ℕ) → is_gained x.layout x.rule (set_of x.edges) ring s ≡ true
+pub gained_by_lows : (x : Reception) (last ring s : ℕ) → is_gained x.layout x.rule (set_of x.edges) ring s ≡ true
     → full_time last x.layout x.rule (images_at x last) ring s
     ≡ min (images_at x last ring s) (max (lows_at x last s) (lows_at x last (observer_of x.layout ring s)))
 unfolding full_time
 gained_by_lows x last ring s is = grind arith
 
-full_late : ImagesAreBelowNever → (x : Hearing) (last ring s : ℕ) → IsHearing x → 1 ≤ x.copies → 2 ^ 30 ≤ last
+full_late : ImagesAreBelowNever → (x : Reception) (last ring s : ℕ) → IsReception x → 1 ≤ x.copies → 2 ^ 30 ≤ last
     → ring < x.rule.k → s < x.layout.nodes → is_full x.layout x.rule (set_of x.edges) ring s ≡ false
     → last ≤ full_time last x.layout x.rule (images_at x last) ring s
 full_late below x last ring s is some wide in_rule process none =
@@ -100,7 +100,7 @@ full_late below x last ring s is some wide in_rule process none =
 
 -- ---- ranks
 
-pub low_is_rank : ImagesAreBelowNever → (x : Hearing) (last s : ℕ) (values : List ℕ) (v : ℕ) → IsHearing x → 1
+pub low_is_rank : ImagesAreBelowNever → (x : Reception) (last s : ℕ) (values : List ℕ) (v : ℕ) → IsReception x → 1
     ≤ x.copies → 2 ^ 30 ≤ last
     → s < x.layout.nodes → ArePresent x last s values → IsRank last x.rule.l values v → v ≡ lows_at x last s
 unfolding low_of
@@ -112,7 +112,7 @@ low_is_rank below x last s values v is some wide process present rank =
     (λ ring _ none. omega (arith, low, others_late below x last ring s is some wide none)))
     rank
 
-pub high_is_rank : ImagesAreBelowNever → (x : Hearing) (last s : ℕ) (values : List ℕ) (v : ℕ) → IsHearing x → 1
+pub high_is_rank : ImagesAreBelowNever → (x : Reception) (last s : ℕ) (values : List ℕ) (v : ℕ) → IsReception x → 1
     ≤ x.copies → 2 ^ 30 ≤ last
     → s < x.layout.nodes → AreFullTimes x last s values → IsRank last x.rule.h values v → v ≡ highs_at x last s
 unfolding high_of
@@ -124,13 +124,14 @@ high_is_rank below x last s values v is some wide process full rank =
     (λ ring in_rule none. omega (arith, low, full_late below x last ring s is some wide in_rule process none)))
     rank
 
--- ---- nodes
+-- ---- candidates
 
-pub reported_are_nodes : ImagesAreBelowNever → (x : Hearing) (last : ℕ) (nodes : List ℕ) → IsHearing x → 1 ≤ x.copies
+pub reported_are_candidates : ImagesAreBelowNever → (x : Reception) (last : ℕ) (candidates : List ℕ) → IsReception x
+    → 1 ≤ x.copies
     → 2 ^ 30 ≤ last
-    → All (λ s. s < x.layout.nodes) nodes
-    → ((s : ℕ) → s < x.layout.nodes → is_reported x.rule (set_of x.edges) s ≡ true → Contains nodes s)
-    → AreNodes x.layout.nodes last (lows_at x last) (highs_at x last) nodes (map (lows_at x last) nodes)
-    (map (highs_at x last) nodes)
-reported_are_nodes below x last nodes is some wide processes each =
+    → All (λ s. s < x.layout.nodes) candidates
+    → ((s : ℕ) → s < x.layout.nodes → is_reported x.rule (set_of x.edges) s ≡ true → Contains candidates s)
+    → AreCandidates x.layout.nodes last (lows_at x last) (highs_at x last) candidates (map (lows_at x last) candidates)
+    (map (highs_at x last) candidates)
+reported_are_candidates below x last candidates is some wide processes each =
     grind (arith, ends_reported_alike below x last is some wide)

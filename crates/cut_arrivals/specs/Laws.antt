@@ -10,11 +10,12 @@ use Rattle.cut_detector.specs.Counts.{is_reported, is_gained, is_full, is_stable
 use Rattle.cut_detector.specs.Proposal.{proposal_of}
 use Rattle.cut_arrivals.specs.Times.{EdgeTimes, ComesAt, low_of, full_time, high_of, members_by, is_settled_by, IsRule}
 use Rattle.cut_arrivals.specs.Rising.{IsRising, moved}
-use Rattle.cut_arrivals.specs.Nodes.{AreTimes, AreNodes, IsClosed}
+use Rattle.cut_arrivals.specs.Candidates.{AreTimes, AreCandidates, IsClosed}
 use Rattle.cut_arrivals.specs.Values.{ArePresent, AreFullTimes}
 use Rattle.cut_blocks.specs.Images.{never, row_of, least_image}
-use Rattle.cut_arrivals.specs.Hearing.{Hearing, IsHearing, deliveries_of, image_of, images_at, proposal_at, lows_at}
-use Rattle.cut_arrivals.specs.Hearing.{highs_at}
+use Rattle.cut_arrivals.specs.Reception.{Reception, IsReception, deliveries_of, image_of, images_at, proposal_at}
+use Rattle.cut_arrivals.specs.Reception.{lows_at}
+use Rattle.cut_arrivals.specs.Reception.{highs_at}
 use Rattle.cut_ranks.specs.Ranks.{rank_at, IsRank}
 
 -- a process is reported on L rings exactly from its low time on
@@ -72,17 +73,17 @@ HighsRise =
 -- if nothing is doubted, the closing of changed times gives the members at the first settled time
 abbrev pub ClosesAsSettled : Type 0
 ClosesAsSettled =
-    (n count last : ℕ) (low high tau : ℕ → ℕ) (lows highs : List ℕ) (first time : ℕ) →
+    (n count last : ℕ) (low high tau : ℕ → ℕ) (reported_at stable_at : List ℕ) (first time : ℕ) →
     IsRising (count + 1) last tau → AreTimes n (count + 1) low high →
-    IsClosed n last (λ s. tau (low s)) (λ s. tau (high s)) lows highs first time →
+    IsClosed n last (λ s. tau (low s)) (λ s. tau (high s)) reported_at stable_at first time →
     option_map (λ t. members_by n high t) (find (λ t. is_settled_by n low high t) (range_with_len 1 count))
     ≡ (if nat_lt time last then Some (members_by n (λ s. tau (high s)) time) else None)
 
 -- what a receiver proposes has the members that the closing of images gives, if nothing is doubted
 abbrev pub ClosesAsProposed : Type 0
 ClosesAsProposed =
-    (x : Hearing) (last : ℕ) (lows highs : List ℕ) (first time : ℕ) → IsHearing x → 2 ^ 30 ≤ last →
-    IsClosed x.layout.nodes last (lows_at x last) (highs_at x last) lows highs first time →
+    (x : Reception) (last : ℕ) (reported_at stable_at : List ℕ) (first time : ℕ) → IsReception x → 2 ^ 30 ≤ last →
+    IsClosed x.layout.nodes last (lows_at x last) (highs_at x last) reported_at stable_at first time →
     option_map (λ p. p.members) (proposal_at x)
     ≡ (if nat_lt time last then Some (members_by x.layout.nodes (highs_at x last) time) else None)
 
@@ -90,8 +91,8 @@ ClosesAsProposed =
 -- images up to it show
 abbrev pub ClosesAtPlace : Type 0
 ClosesAtPlace =
-    (x : Hearing) (last : ℕ) (lows highs : List ℕ) (first time : ℕ) → IsHearing x → 2 ^ 30 ≤ last →
-    IsClosed x.layout.nodes last (lows_at x last) (highs_at x last) lows highs first time →
+    (x : Reception) (last : ℕ) (reported_at stable_at : List ℕ) (first time : ℕ) → IsReception x → 2 ^ 30 ≤ last →
+    IsClosed x.layout.nodes last (lows_at x last) (highs_at x last) reported_at stable_at first time →
     count_by (λ y. image_of x y == time) (deliveries_of x) ≤ 1 →
     proposal_at x
     ≡ (if nat_lt time last
@@ -104,18 +105,18 @@ ClosesAtPlace =
 -- at each receiver the same processes are reported in the end, and the same are stable: those that are by all edges
 abbrev pub EndsReportedAlike : Type 0
 EndsReportedAlike =
-    (x : Hearing) (last : ℕ) → IsHearing x → 1 ≤ x.copies → 2 ^ 30 ≤ last → (s : ℕ) → s < x.layout.nodes →
+    (x : Reception) (last : ℕ) → IsReception x → 1 ≤ x.copies → 2 ^ 30 ≤ last → (s : ℕ) → s < x.layout.nodes →
     nat_lt (lows_at x last s) last ≡ is_reported x.rule (set_of x.edges) s
 
 abbrev pub EndsStableAlike : Type 0
 EndsStableAlike =
-    (x : Hearing) (last : ℕ) → IsHearing x → 1 ≤ x.copies → 2 ^ 30 ≤ last → (s : ℕ) → s < x.layout.nodes →
+    (x : Reception) (last : ℕ) → IsReception x → 1 ≤ x.copies → 2 ^ 30 ≤ last → (s : ℕ) → s < x.layout.nodes →
     nat_lt (highs_at x last s) last ≡ is_stable x.layout x.rule (set_of x.edges) s
 
 -- if no process is stable by all edges, no receiver proposes
 abbrev pub SilentWhereNoneEndsStable : Type 0
 SilentWhereNoneEndsStable =
-    (x : Hearing) → IsHearing x →
+    (x : Reception) → IsReception x →
     ((s : ℕ) → s < x.layout.nodes → ¬ IsTrue (is_stable x.layout x.rule (set_of x.edges) s)) → proposal_at x ≡ None
 
 -- the images of edges, and lows and highs, as they are computed
@@ -125,7 +126,7 @@ SilentWhereNoneEndsStable =
 -- the receiver
 abbrev pub ImagesAreLeast : Type 0
 ImagesAreLeast =
-    (x : Hearing) (ring s : ℕ) → IsTrue (set_of x.edges ring s) →
+    (x : Reception) (ring s : ℕ) → IsTrue (set_of x.edges ring s) →
     images_at x never ring s
     ≡ least_image x.source x.copies (edge_number x.rule.k (record { ring = ring; subject = s }) / 8)
     (edge_number x.rule.k (record { ring = ring; subject = s }) % 8) (row_of 0 x.receiver)
@@ -133,13 +134,14 @@ ImagesAreLeast =
 -- an edge that isn't alerted has no image
 abbrev pub OthersNeverCome : Type 0
 OthersNeverCome =
-    (x : Hearing) (last ring s : ℕ) → IsHearing x → 1 ≤ x.copies → 2 ^ 30 ≤ last →
+    (x : Reception) (last ring s : ℕ) → IsReception x → 1 ≤ x.copies → 2 ^ 30 ≤ last →
     set_of x.edges ring s ≡ false → images_at x last ring s ≡ last
 
 -- a ring that isn't gained counts from the image of its edge on
 abbrev pub UngainedCountByImage : Type 0
 UngainedCountByImage =
-    (x : Hearing) (last ring s : ℕ) → IsHearing x → 1 ≤ x.copies → 2 ^ 30 ≤ last → ring < x.rule.k → s < x.layout.nodes
+    (x : Reception) (last ring s : ℕ) → IsReception x → 1 ≤ x.copies → 2 ^ 30 ≤ last → ring < x.rule.k
+    → s < x.layout.nodes
     →
     is_gained x.layout x.rule (set_of x.edges) ring s ≡ false →
     full_time last x.layout x.rule (images_at x last) ring s ≡ images_at x last ring s
@@ -147,7 +149,7 @@ UngainedCountByImage =
 -- and one that is gained also from when both processes are reported
 abbrev pub GainedCountByLows : Type 0
 GainedCountByLows =
-    (x : Hearing) (last ring s : ℕ) →
+    (x : Reception) (last ring s : ℕ) →
     is_gained x.layout x.rule (set_of x.edges) ring s ≡ true →
     full_time last x.layout x.rule (images_at x last) ring s
     ≡ min (images_at x last ring s) (max (lows_at x last s) (lows_at x last (observer_of x.layout ring s)))
@@ -156,44 +158,48 @@ GainedCountByLows =
 -- end
 abbrev pub LowIsRankOfPresent : Type 0
 LowIsRankOfPresent =
-    (x : Hearing) (last s : ℕ) (values : List ℕ) (v : ℕ) → IsHearing x → 1 ≤ x.copies → 2 ^ 30 ≤ last → s
+    (x : Reception) (last s : ℕ) (values : List ℕ) (v : ℕ) → IsReception x → 1 ≤ x.copies → 2 ^ 30 ≤ last → s
     < x.layout.nodes →
     ArePresent x last s values → IsRank last x.rule.l values v → v ≡ lows_at x last s
 
 abbrev pub HighIsRankOfFullTimes : Type 0
 HighIsRankOfFullTimes =
-    (x : Hearing) (last s : ℕ) (values : List ℕ) (v : ℕ) → IsHearing x → 1 ≤ x.copies → 2 ^ 30 ≤ last → s
+    (x : Reception) (last s : ℕ) (values : List ℕ) (v : ℕ) → IsReception x → 1 ≤ x.copies → 2 ^ 30 ≤ last → s
     < x.layout.nodes →
     AreFullTimes x last s values → IsRank last x.rule.h values v → v ≡ highs_at x last s
 
 -- the processes that are reported in the end are all that is needed
-abbrev pub ReportedAreNodes : Type 0
-ReportedAreNodes =
-    (x : Hearing) (last : ℕ) (nodes : List ℕ) → IsHearing x → 1 ≤ x.copies → 2 ^ 30 ≤ last →
-    All (λ s. s < x.layout.nodes) nodes →
-    ((s : ℕ) → s < x.layout.nodes → IsTrue (is_reported x.rule (set_of x.edges) s) → Contains nodes s) →
-    AreNodes x.layout.nodes last (lows_at x last) (highs_at x last) nodes (map (lows_at x last) nodes)
-    (map (highs_at x last) nodes)
+abbrev pub ReportedAreCandidates : Type 0
+ReportedAreCandidates =
+    (x : Reception) (last : ℕ) (candidates : List ℕ) → IsReception x → 1 ≤ x.copies → 2 ^ 30 ≤ last →
+    All (λ s. s < x.layout.nodes) candidates →
+    ((s : ℕ) → s < x.layout.nodes → IsTrue (is_reported x.rule (set_of x.edges) s) → Contains candidates s) →
+    AreCandidates x.layout.nodes last (lows_at x last) (highs_at x last) candidates (map (lows_at x last) candidates)
+    (map (highs_at x last) candidates)
 
--- what the members lack of some targets, and what they have besides, by the nodes alone
+-- what the members lack of some targets, and what they have besides, by the candidates alone
 
--- some target is none of the members if some is no node, or some node that is a target ends later
-abbrev pub NodesShowLacking : Type 0
-NodesShowLacking =
-    (x : Hearing) (last time : ℕ) (nodes lows highs : List ℕ) (is_target : ℕ → Bool) → IsHearing x → 2 ^ 30 ≤ last →
-    AreNodes x.layout.nodes last (lows_at x last) (highs_at x last) nodes lows highs → time < last →
+-- some target is none of the members if some is no candidate, or some candidate that is a target ends later
+abbrev pub CandidatesShowLacking : Type 0
+CandidatesShowLacking =
+    (x : Reception) (last time : ℕ) (candidates reported_at stable_at : List ℕ) (is_target : ℕ → Bool) → IsReception x
+    → 2 ^ 30 ≤ last →
+    AreCandidates x.layout.nodes last (lows_at x last) (highs_at x last) candidates reported_at stable_at
+    → time < last →
     list_any (λ p. is_target p && not (list_any (λ m. m == p) (members_by x.layout.nodes (highs_at x last) time)))
     (range_with_len 0 x.layout.nodes)
-    ≡ (list_any (λ p. is_target p && not (list_any (λ m. m == p) nodes)) (range_with_len 0 x.layout.nodes)
-    || list_any (λ p. is_target p && nat_lt time (highs_at x last p)) nodes)
+    ≡ (list_any (λ p. is_target p && not (list_any (λ m. m == p) candidates)) (range_with_len 0 x.layout.nodes)
+    || list_any (λ p. is_target p && nat_lt time (highs_at x last p)) candidates)
 
--- some member is no target if some node that is none has ended
-abbrev pub NodesShowOther : Type 0
-NodesShowOther =
-    (x : Hearing) (last time : ℕ) (nodes lows highs : List ℕ) (is_target : ℕ → Bool) → IsHearing x → 2 ^ 30 ≤ last →
-    AreNodes x.layout.nodes last (lows_at x last) (highs_at x last) nodes lows highs → time < last →
+-- some member is no target if some candidate that is none has ended
+abbrev pub CandidatesShowOther : Type 0
+CandidatesShowOther =
+    (x : Reception) (last time : ℕ) (candidates reported_at stable_at : List ℕ) (is_target : ℕ → Bool) → IsReception x
+    → 2 ^ 30 ≤ last →
+    AreCandidates x.layout.nodes last (lows_at x last) (highs_at x last) candidates reported_at stable_at
+    → time < last →
     list_any (λ p. not (is_target p)) (members_by x.layout.nodes (highs_at x last) time)
-    ≡ list_any (λ p. not (is_target p) && nat_le (highs_at x last p) time) nodes
+    ≡ list_any (λ p. not (is_target p) && nat_le (highs_at x last p) time) candidates
 
 -- where neither is so, the members are the targets
 abbrev pub MembersAreTargets : Type 0

@@ -1,6 +1,6 @@
 pub mod Times
 pub mod Rising
-pub mod Nodes
-pub mod Hearing
+pub mod Candidates
+pub mod Reception
 pub mod Values
 pub mod Laws

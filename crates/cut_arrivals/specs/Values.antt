@@ -5,16 +5,16 @@ use Rattle.std.specs.List.Sorted.{IsPermutation}
 use Rattle.cut_rings.specs.Edges.{set_of}
 use Rattle.cut_detector.specs.Counts.{is_full}
 use Rattle.cut_arrivals.specs.Times.{full_time}
-use Rattle.cut_arrivals.specs.Hearing.{Hearing, images_at}
+use Rattle.cut_arrivals.specs.Reception.{Reception, images_at}
 
 -- the images of the alerted edges to s, in any order
-pub record ArePresent (x : Hearing) (last s : ℕ) (values : List ℕ) : Type 0 where
+pub record ArePresent (x : Reception) (last s : ℕ) (values : List ℕ) : Type 0 where
   pub rings : List ℕ
   pub moved : IsPermutation (filter (λ ring. set_of x.edges ring s) (range_with_len 0 x.rule.k)) rings
   pub values_are : values ≡ map (λ ring. images_at x last ring s) rings
 
 -- the full times, by images, of the rings that count for s in the end, in any order
-pub record AreFullTimes (x : Hearing) (last s : ℕ) (values : List ℕ) : Type 0 where
+pub record AreFullTimes (x : Reception) (last s : ℕ) (values : List ℕ) : Type 0 where
   pub rings : List ℕ
   pub moved : IsPermutation (filter (λ ring. is_full x.layout x.rule (set_of x.edges) ring s)
       (range_with_len 0 x.rule.k)) rings

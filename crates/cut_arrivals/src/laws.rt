@@ -20,9 +20,9 @@ ghost use Rattle.cut_arrivals.specs.Laws.{
   GainedCountByLows,
   LowIsRankOfPresent,
   HighIsRankOfFullTimes,
-  ReportedAreNodes,
-  NodesShowLacking,
-  NodesShowOther,
+  ReportedAreCandidates,
+  CandidatesShowLacking,
+  CandidatesShowOther,
   MembersAreTargets,
 };
 
@@ -45,8 +45,8 @@ pub fn proposals_follow_from_times()
 /// highs of the changed times are the changed ranks, lows and highs.
 pub fn ranks_keep_rising_changes()
     ensures ranks { RanksRise }
-    ensures lows { LowsRise }
-    ensures highs { HighsRise }
+    ensures reported_at { LowsRise }
+    ensures stable_at { HighsRise }
 {}
 
 /// If there is no doubt, the time by which all that began before it has ended gives the members of the first settled
@@ -99,16 +99,16 @@ pub fn few_values_give_lows_and_highs()
     ensures gained { GainedCountByLows }
     ensures low { LowIsRankOfPresent }
     ensures high { HighIsRankOfFullTimes }
-    ensures nodes { ReportedAreNodes }
+    ensures candidates { ReportedAreCandidates }
 {
     images_are_below_never();
 }
 
 /// Whether the members lack a target or have another process follows from the processes that are reported in the end.
 /// If neither holds, the members are the targets.
-pub fn nodes_show_the_verdict()
-    ensures lacking { NodesShowLacking }
-    ensures other { NodesShowOther }
+pub fn candidates_show_the_verdict()
+    ensures lacking { CandidatesShowLacking }
+    ensures other { CandidatesShowOther }
     ensures exact { MembersAreTargets }
 {
     images_are_below_never();

@@ -80,8 +80,8 @@ fn share_given(given: &ArgMatches) -> Option<ShareNumber>
 {
     let text = given.get_str("share")?;
     let (first, second) = text.split_once('/')?;
-    let index = number_in(first, MOST_SHARES)?;
-    let shares = number_in(second, MOST_SHARES)?;
+    let index = parse_number(first, MOST_SHARES)?;
+    let shares = parse_number(second, MOST_SHARES)?;
     if index > shares {
         return None;
     }
@@ -89,7 +89,7 @@ fn share_given(given: &ArgMatches) -> Option<ShareNumber>
 }
 
 /// The number, from 1 to a greatest one, that a text is in decimal digits alone.
-fn number_in(text: &str, most: u32) -> Option<u32>
+fn parse_number(text: &str, most: u32) -> Option<u32>
     ensures some { IfSome result (λ n. IsDigitsIn most text.now n) }
     ensures none { IfNone result ((n : ℕ) → IsDigitsIn most text.now n → ⊥) }
 {

@@ -74,13 +74,13 @@ fn read_text<W: Wire>(alloc: Global, wire: &mut W, limit: usize) -> Result<Vec<u
     ensures { GivesText limit (text_of result) (W.log wire.old) (W.log wire.new) }
 {
     let mut text = vec![in alloc; 0u8; limit]?;
-    let filled = fill(wire, text.as_mut_slice())?;
+    let filled = fill_buffer(wire, text.as_mut_slice())?;
     text.truncate(filled);
     Ok(text)
 }
 
 /// Reads until the buffer is full or the input ends, and returns how many bytes came.
-fn fill<W: Wire>(wire: &mut W, buffer: &mut [u8]) -> Result<usize, CliFault>
+fn fill_buffer<W: Wire>(wire: &mut W, buffer: &mut [u8]) -> Result<usize, CliFault>
     ensures { FillsFrom (length buffer.old) result buffer.new (W.log wire.old) (W.log wire.new) }
 {
     let mut filled = 0;

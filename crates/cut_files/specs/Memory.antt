@@ -2,14 +2,14 @@
 use Rattle.std.specs.Prelude.{◌≡◌, ◌≢◌, ℕ, List, Option, None, Some}
 use Rattle.std.specs.BTreeMap.{get_by_text}
 use Rattle.cut_disks.specs.Log.{DiskLog}
-use Rattle.cut_files.specs.declared.memory_files.Kept.{Kept}
-use Rattle.cut_files.specs.declared.memory_files.Kept.TheVariants as kept
+use Rattle.cut_files.specs.declared.memory_files.FileState.{FileState}
+use Rattle.cut_files.specs.declared.memory_files.FileState.TheVariants as kept
 use Rattle.cut_files.specs.declared.memory_files.MemoryFiles.{MemoryFiles}
 use Rattle.cut_files.specs.Place.{Place, Absent, Refused, Open, Holds}
 
 module _ {D : Type 0} where
   -- what stands at a path in memory, if anything does
-  abbrev pub kept_at : MemoryFiles D → List ℕ → Option (Kept D)
+  abbrev pub kept_at : MemoryFiles D → List ℕ → Option (FileState D)
   kept_at files path = get_by_text files.files path
 
   -- nothing changed at the other paths
@@ -17,12 +17,12 @@ module _ {D : Type 0} where
   KeepsElsewhere path old new = (other : List ℕ) → other ≢ path → kept_at new other ≡ kept_at old other
 
   -- the disk of a file that is not open
-  abbrev pub disk_of : Option (Kept D) → Option D
+  abbrev pub disk_of : Option (FileState D) → Option D
   disk_of (Some (kept.Held disk)) = Some disk
   disk_of other = None
 
   -- what is known of a path, by what stands there in memory and the logs of disks
-  abbrev pub place_of : (D → DiskLog) → Option (Kept D) → Place
+  abbrev pub place_of : (D → DiskLog) → Option (FileState D) → Place
   place_of log None = Absent
   place_of log (Some kept.Refused) = Refused
   place_of log (Some kept.Open) = Open

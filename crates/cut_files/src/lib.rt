@@ -12,5 +12,5 @@ mod system_files;
 
 pub use files::{Files, Mode, OpenFault};
 pub use in_memory::InMemory;
-pub use memory_files::{Kept, MemoryFiles};
+pub use memory_files::{FileState, MemoryFiles};
 pub use system_files::SystemFiles;

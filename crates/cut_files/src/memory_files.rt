@@ -1,7 +1,7 @@
 ghost use Rattle.std.specs.Prelude.{◌≡◌, ℕ, List, Some, None, IfOk, IfErr, OnOk, OnErr, option_copied};
 ghost use Rattle.cut_files.specs.Place.{new_file};
 ghost use Rattle.cut_files.specs.declared.files.OpenFault.TheVariants as open_fault;
-ghost use Rattle.cut_files.specs.declared.memory_files.Kept.TheVariants.{Refused, Open, Held};
+ghost use Rattle.cut_files.specs.declared.memory_files.FileState.TheVariants.{Refused, Open, Held};
 ghost use Rattle.cut_files.specs.Memory.{kept_at, disk_of, KeepsElsewhere};
 ghost use Rattle.cut_files.specs.inside.Memory.{TakesOut};
 
@@ -13,7 +13,7 @@ use std::mem;
 
 /// What stands at a path.
 #[derive(Drop)]
-pub enum Kept<D> {
+pub enum FileState<D> {
     /// Something that can't be opened.
     Refused,
     /// A file that is open.
@@ -26,7 +26,7 @@ pub enum Kept<D> {
 #[derive(Drop)]
 pub struct MemoryFiles<D = MemoryDisk> {
     alloc: Global,
-    files: BTreeMap<String, Kept<D>>,
+    files: BTreeMap<String, FileState<D>>,
 }
 
 impl<D: InMemory + Drop> MemoryFiles<D> {
@@ -46,7 +46,7 @@ impl<D: InMemory + Drop> MemoryFiles<D> {
         ensures stays { OnErr result (kept_at self.new path.now ≡ kept_at self.old path.now) }
         ensures elsewhere { KeepsElsewhere path.now self.old self.new }
     {
-        self.keep(path, Kept::Held(disk))
+        self.keep(path, FileState::Held(disk))
     }
 
     /// Puts something at a path that can't be opened, in place of what stood there. If memory runs out, nothing is
@@ -56,7 +56,7 @@ impl<D: InMemory + Drop> MemoryFiles<D> {
         ensures stays { OnErr result (kept_at self.new path.now ≡ kept_at self.old path.now) }
         ensures elsewhere { KeepsElsewhere path.now self.old self.new }
     {
-        self.keep(path, Kept::Refused)
+        self.keep(path, FileState::Refused)
     }
 
     /// The disk of the file at a path, if there is one that is not open.
@@ -64,13 +64,13 @@ impl<D: InMemory + Drop> MemoryFiles<D> {
         ensures { option_copied result ≡ disk_of (kept_at self.now path.now) }
     {
         match self.files.get(path) {
-            Some(Kept::Held(disk)) => Some(disk),
+            Some(FileState::Held(disk)) => Some(disk),
             _ => None,
         }
     }
 
     /// Sets what stands at a path. If memory runs out, nothing is changed.
-    fn keep(&mut self, path: &str, kept: Kept<D>) -> Result<(), AllocError>
+    fn keep(&mut self, path: &str, kept: FileState<D>) -> Result<(), AllocError>
         ensures kept { OnOk result (kept_at self.new path.now ≡ Some kept) }
         ensures stays { OnErr result (kept_at self.new path.now ≡ kept_at self.old path.now) }
         ensures elsewhere { KeepsElsewhere path.now self.old self.new }
@@ -89,20 +89,20 @@ impl<D: InMemory + Drop> MemoryFiles<D> {
         ensures elsewhere { KeepsElsewhere path.now self.old self.new }
     {
         let disk = D::empty(self.alloc)?;
-        self.keep(path, Kept::Open)?;
+        self.keep(path, FileState::Open)?;
         Ok(disk)
     }
 }
 
 /// Takes the disk of a file that is not open, which is open from then on.
-fn take_out<D: Drop>(kept: &mut Kept<D>) -> Result<D, OpenFault>
+fn take_out<D: Drop>(kept: &mut FileState<D>) -> Result<D, OpenFault>
     ensures { TakesOut result kept.old kept.new }
 {
-    match mem::replace(kept, Kept::Open) {
-        Kept::Held(disk) => Ok(disk),
-        Kept::Open => Err(OpenFault::Disk),
-        Kept::Refused => {
-            *kept = Kept::Refused;
+    match mem::replace(kept, FileState::Open) {
+        FileState::Held(disk) => Ok(disk),
+        FileState::Open => Err(OpenFault::Disk),
+        FileState::Refused => {
+            *kept = FileState::Refused;
             Err(OpenFault::Disk)
         }
     }
@@ -127,20 +127,20 @@ impl<D: InMemory + Drop + Send> Files for MemoryFiles<D> {
 
     fn close(&mut self, path: &str, disk: D) {
         if let Some(kept) = self.files.get_mut(path) {
-            *kept = Kept::Held(disk);
+            *kept = FileState::Held(disk);
         }
     }
 
     fn read(&self, alloc: Global, path: &str) -> Result<Vec<u8>, OpenFault> {
         match self.files.get(path) {
-            Some(Kept::Held(disk)) => Ok(Vec::from_slice(alloc, disk.bytes())?),
+            Some(FileState::Held(disk)) => Ok(Vec::from_slice(alloc, disk.bytes())?),
             _ => Err(OpenFault::Disk),
         }
     }
 
     fn read_start(&self, alloc: Global, path: &str, limit: usize) -> Result<Vec<u8>, OpenFault> {
         match self.files.get(path) {
-            Some(Kept::Held(disk)) => {
+            Some(FileState::Held(disk)) => {
                 let bytes = disk.bytes();
                 let count = bytes.len().min(limit);
                 Ok(Vec::from_slice(alloc, &bytes[..count])?)

@@ -44,9 +44,9 @@ impl Lists<'_> {
     fn combinations(&self) -> usize {
         let mut count = 0usize;
         for high in self.h {
-            let number = number_in(high);
-            let below = self.l.iter().filter(|low| number_in(*low) <= number);
-            let above = self.k.iter().filter(|rings| number <= number_in(*rings));
+            let number = number_of(high);
+            let below = self.l.iter().filter(|low| number_of(*low) <= number);
+            let above = self.k.iter().filter(|rings| number <= number_of(*rings));
             count = count.saturating_add(below.count().saturating_mul(above.count()));
         }
         count
@@ -75,18 +75,18 @@ fn sound_items(value: &Value, field: Field) -> &[Value] {
 }
 
 /// The number that a value is, 0 if it is none.
-fn number_in(value: &Value) -> u64 {
+fn number_of(value: &Value) -> u64 {
     value.as_u64().unwrap_or(0)
 }
 
 /// The first number of a list.
 fn first_of(items: &[Value]) -> u64 {
-    items.first().map_or(0, number_in)
+    items.first().map_or(0, number_of)
 }
 
 /// The last number of a list.
 fn last_of(items: &[Value]) -> u64 {
-    items.last().map_or(0, number_in)
+    items.last().map_or(0, number_of)
 }
 
 /// Adds why there is no cell.

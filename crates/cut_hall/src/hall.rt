@@ -19,7 +19,7 @@ use cut_board::{Board, SeatFault};
 use cut_book::{Book, Opened, Shelf, SubmitFault};
 use cut_disks::Disk;
 use cut_plan::Plan;
-use cut_slots::{Accounts, Asked, CallCounter, Match, Slot, deal};
+use cut_slots::{Accounts, Asked, CallCounter, Match, Slot, make_passes};
 use std::alloc::{AllocError, Global};
 use std::marker::Model;
 use std::sync::ledger::Share;
@@ -112,7 +112,7 @@ impl<D: Disk + Drop, M: CallLedger, K: CallLedger> Hall<D, M, K> {
         let (board, seats) = Board::start(alloc, slots, passes)?;
         let (accounts, made, kept) = Accounts::open(blanks);
         let places = places_of(alloc, slots, kept)?;
-        let given = deal(alloc, &board, seats, made)?;
+        let given = make_passes(alloc, &board, seats, made)?;
         let hall = Hall {
             board,
             places,
@@ -149,7 +149,7 @@ impl<D: Disk + Drop, M: CallLedger, K: CallLedger> Hall<D, M, K> {
         let (accounts, made, kept) = Accounts::open(blanks);
         let places = place_of(alloc, book, kept)?;
         let (board, seats) = Board::start(alloc, 1, passes)?;
-        let given = deal(alloc, &board, seats, made)?;
+        let given = make_passes(alloc, &board, seats, made)?;
         let hall = Hall {
             board,
             places,

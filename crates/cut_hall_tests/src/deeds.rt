@@ -305,7 +305,7 @@ pub(crate) fn put_back<M: CallLedger, K: CallLedger>(
 }
 
 /// Closes a hall with its passes.
-pub(crate) fn closed<M: CallLedger, K: CallLedger>(
+pub(crate) fn close_hall<M: CallLedger, K: CallLedger>(
     alloc: Global,
     hall: Stormy<M, K>,
     passes: Vec<Pass<M>>,

@@ -3,7 +3,7 @@
 ghost use Rattle.std.specs.Prelude.{◌≡◌, ◌<◌, ◌≤◌, false, None, Err, IfSome};
 ghost use Rattle.cut_slots.specs.declared.not_closed.NotClosed.TheVariants.{SeatMissing};
 
-use crate::deeds::{Deed, End, Foul, Guest, Stormy, closed};
+use crate::deeds::{Deed, End, Foul, Guest, Stormy, close_hall};
 use cut_book::{NoShelf, Opened};
 use cut_hall::{Blanks, CallLedger, Hall, NotClosed, OpenGate, Pass, Report, StudyCell};
 use cut_ledger::{Base, Slip};
@@ -168,7 +168,7 @@ fn closed_at_last<M: CallLedger, K: CallLedger>(
     };
     let (hall, mut passes) = back;
     passes.push(second)?;
-    Ok(first_slot(&closed(alloc, hall, passes)?))
+    Ok(first_slot(&close_hall(alloc, hall, passes)?))
 }
 
 /// The accepted trials and the calls of the first slot, and whether its study is complete.

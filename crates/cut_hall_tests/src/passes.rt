@@ -1,7 +1,7 @@
 //! A hall of three passes, of which one is kept back at first.
 ghost use Rattle.std.specs.Prelude.{◌≡◌, All, None};
 
-use crate::deeds::{Stormy, closed};
+use crate::deeds::{Stormy, close_hall};
 use cut_hall::{Blanks, CallLedger, Hall, NotClosed, Pass, Report};
 use std::alloc::Global;
 use std::marker::Brand;
@@ -29,7 +29,7 @@ fn close_twice<M: CallLedger, K: CallLedger>(
     match hall.close(alloc, passes) {
         Err(NotClosed::SeatMissing((hall, mut passes))) => {
             passes.push(last)?;
-            Ok(only_slot(&closed(alloc, hall, passes)?))
+            Ok(only_slot(&close_hall(alloc, hall, passes)?))
         }
         _ => Ok(None),
     }

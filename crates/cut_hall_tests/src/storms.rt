@@ -2,7 +2,7 @@
 ghost use Rattle.std.specs.Prelude.{◌≡◌, ◌<◌, ◌≤◌, None, All};
 ghost use Rattle.atomic_table.specs.Seated.{TableId};
 
-use crate::deeds::{Brittle, Deed, End, Guest, Stormy, Tools, closed, put_back};
+use crate::deeds::{Brittle, Deed, End, Guest, Stormy, Tools, close_hall, put_back};
 use cut_hall::{Blanks, CallLedger, Hall, OpenGate, Pass, Report};
 use cut_plan::{Plan, PlanFault};
 use cut_pool_cases::{Study, TWO_CELLS, studies};
@@ -345,7 +345,7 @@ where
     play_in(rt, alloc, &hall, &shared, &mut passes);
     let slots = slots_of(rt, alloc, &hall, &mut last, storm.shelf)?;
     put_back(&hall, &mut passes, last)?;
-    let report = closed(alloc, hall, passes)?;
+    let report = close_hall(alloc, hall, passes)?;
     if !is_right(&report, slots.as_slice(), storm.is_calm) {
         return Err("a slot accepted other trials than those of its study")?;
     }

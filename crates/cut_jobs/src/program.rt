@@ -48,14 +48,14 @@ where
     match parse_line(system.host.alloc(), words) {
         Ok(job) => {
             let ended = answer(devices, system, job, wire, errors);
-            end(ended, errors)
+            report_status(ended, errors)
         }
-        Err(fault) => end_line(&fault, wire, errors),
+        Err(fault) => report_line_fault(&fault, wire, errors),
     }
 }
 
 /// Reports a command's fault on `errors` and returns the exit status.
-fn end<E: Wire>(ended: Result<(), CliFault>, errors: &mut E) -> u8
+fn report_status<E: Wire>(ended: Result<(), CliFault>, errors: &mut E) -> u8
     ensures { ReportsEnd ended (E.log errors.old) (E.log errors.new) result }
 {
     match ended {
@@ -75,7 +75,7 @@ fn end_fault<E: Wire>(fault: &CliFault, errors: &mut E) -> u8
 }
 
 /// Ends where the words name no job: help goes to the output, and a mistake to the errors.
-fn end_line<W: Wire, E: Wire>(fault: &LineFault, wire: &mut W, errors: &mut E) -> u8
+fn report_line_fault<W: Wire, E: Wire>(fault: &LineFault, wire: &mut W, errors: &mut E) -> u8
     ensures { ReportsLine fault.now.status (string_bytes fault.now.text)
         (W.log wire.old) (W.log wire.new) (E.log errors.old) (E.log errors.new) result }
 {

@@ -5,7 +5,7 @@ ghost use Rattle.cut_journal.specs.File.{HoldsAllTotals};
 ghost use Rattle.cut_journal.specs.Journal.{AppendsEach, kept_slips, taken};
 ghost use Rattle.cut_join.specs.Joined.{joined};
 ghost use Rattle.cut_join.specs.Joining.{EndsAppends, EndsJoin, joining_faults};
-ghost use Rattle.cut_join.specs.inside.Joining.{EndsAppend, fault_of};
+ghost use Rattle.cut_join.specs.inside.Joining.{EndsAppend, join_fault_of};
 
 use crate::JoinFault;
 use crate::joined::joined;
@@ -89,13 +89,13 @@ fn append<D: Disk>(journal: &mut Journal<D>, slip: Slip) -> Result<(), JoinFault
     journal.stays_readable();
     match journal.append_slip(slip) {
         Ok(_) => Ok(()),
-        Err(fault) => Err(fault_of(fault)),
+        Err(fault) => Err(join_fault_of(fault)),
     }
 }
 
 /// The fault of a join for the fault of an append.
-fn fault_of(fault: JournalFault) -> JoinFault
-    ensures { result ≡ fault_of fault }
+fn join_fault_of(fault: JournalFault) -> JoinFault
+    ensures { result ≡ join_fault_of fault }
 {
     match fault {
         JournalFault::Disk => JoinFault::Disk,

@@ -9,9 +9,9 @@ ghost use Rattle.cut_journal.specs.Opening.{IsReopened, IsRefused, IsOpeningFaul
 
 use crate::JournalFault;
 use crate::format::{FileHeader, Gate};
-use crate::kept_study::find;
-use crate::new_study::make;
-use crate::slip_append::{NextSlip, keep};
+use crate::kept_study::find_study;
+use crate::new_study::make_study;
+use crate::slip_append::{NextSlip, keep_slip};
 use crate::slips::Slips;
 use cut_disks::Disk;
 use cut_ledger::{Slip, slip_of};
@@ -65,7 +65,7 @@ impl<D: Disk> Journal<D> {
             Ok(study) => study,
             Err(_) => return Err((JournalFault::Memory, disk)),
         };
-        match make(alloc, &mut disk, &study) {
+        match make_study(alloc, &mut disk, &study) {
             Ok(()) => {
                 let gate = study.first_gate();
                 Ok(Journal {
@@ -101,7 +101,7 @@ impl<D: Disk> Journal<D> {
             Ok(study) => study,
             Err(_) => return Err((JournalFault::Memory, disk)),
         };
-        match find(alloc, &mut disk, &study) {
+        match find_study(alloc, &mut disk, &study) {
             Ok(found) => {
                 let Slips { slips, gate } = found;
                 let journal = Journal {
@@ -157,7 +157,7 @@ impl<D: Disk> Journal<D> {
             gate: self.gate,
             slip,
         };
-        match keep(&mut self.disk, next) {
+        match keep_slip(&mut self.disk, next) {
             Ok(()) => {
                 self.gate = Gate {
                     number: self.gate.number + 1,

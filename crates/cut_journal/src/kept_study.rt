@@ -19,7 +19,7 @@ use cut_disks::{Disk, DiskFault};
 use std::alloc::Global;
 
 /// The slips of a study that a disk holds, and why there are none.
-pub(crate) fn find<D: Disk>(
+pub(crate) fn find_study<D: Disk>(
     alloc: Global,
     disk: &mut D,
     study: &FileHeader,

@@ -15,7 +15,7 @@ use cut_disks::{Disk, DiskFault};
 use std::alloc::Global;
 
 /// Makes a disk hold a study without slips, unless it holds a study already.
-pub(crate) fn make<D: Disk>(
+pub(crate) fn make_study<D: Disk>(
     alloc: Global,
     disk: &mut D,
     study: &FileHeader,
@@ -57,15 +57,15 @@ fn write_new<D: Disk>(disk: &mut D, file: NewFile<'_>, size: u64) -> Result<(), 
     requires { Knows (D.log disk.old) (IsFree size) }
     ensures writes { Goes (counted result) (WritesNew result file.entry.study.now) (D.log disk.old) (D.log disk.new) }
 {
-    close(disk, size)?;
+    close_study_gate(disk, size)?;
     write_rest(disk, file)?;
-    open(disk, file.study)
+    open_study_gate(disk, file.study)
 }
 
 /// Makes the gate of the study a closed one, if there is no byte for it, or it is all that there is.
 ///
 /// A longer file has a closed one already, and a write there could open it.
-fn close<D: Disk>(disk: &mut D, size: u64) -> Result<(), DiskFault>
+fn close_study_gate<D: Disk>(disk: &mut D, size: u64) -> Result<(), DiskFault>
     requires { Knows (D.log disk.old) (IsFree size) }
     ensures closes { Goes (counted result) (Closes result) (D.log disk.old) (D.log disk.new) }
 {
@@ -86,7 +86,7 @@ fn write_rest<D: Disk>(disk: &mut D, file: NewFile<'_>) -> Result<(), DiskFault>
 }
 
 /// Opens the gate of a study without slips, by a write of its own.
-fn open<D: Disk>(disk: &mut D, study: &FileHeader) -> Result<(), DiskFault>
+fn open_study_gate<D: Disk>(disk: &mut D, study: &FileHeader) -> Result<(), DiskFault>
     requires { Knows (D.log disk.old) (HasBegun study.now) }
     ensures opens { Goes (counted result) (WritesNew result study.now) (D.log disk.old) (D.log disk.new) }
 {

@@ -27,7 +27,7 @@ pub(crate) struct NextSlip<'a> {
 }
 
 /// Keeps a slip: writes it after its gate, which is closed, and then opens the gate.
-pub(crate) fn keep<D: Disk>(disk: &mut D, next: NextSlip<'_>) -> Result<(), DiskFault>
+pub(crate) fn keep_slip<D: Disk>(disk: &mut D, next: NextSlip<'_>) -> Result<(), DiskFault>
     requires reports { HoldsAllTotals (version_of next.study.now.failing) next.slip.totals }
     requires sound { Knows (D.log disk.old) (IsFileOf next.study.now next.gate.number None) }
     ensures keeps { Goes (counted result) (KeepsSlip result next.entry.study.now next.entry.gate.number next.entry.slip)

@@ -1,15 +1,15 @@
-//! Ranks of times and closing times for four receivers at once.
+//! Ranks of times and proposal times for four receivers at once.
 //!
-//! A receiver is a lane of vectors, and its times are images of keys, at most [`NEVER`](cut_blocks::NEVER).
-//! [`ordered`] gives the lesser and the greater of two times of each receiver; [`select`] two ranks of each receiver's
-//! times; [`close`] the time by which each process that began before it has ended, and whether equal images leave that
-//! in doubt.
+//! A receiver is a lane of vectors, and its times are images of keys, at most [`NEVER`](cut_blocks::NEVER). [`ordered`]
+//! gives the lesser and the greater of two times of each receiver; [`select`] two ranks of each receiver's times;
+//! [`compute_proposal_time`] the time by which each process that began before it has ended, and whether equal images
+//! leave that in doubt.
 #![tactic(auto)]
 
-mod closing;
+mod proposal_time;
 mod lanes;
 mod ranks;
 
-pub use closing::{Closing, close};
+pub use proposal_time::{ProposalTime, compute_proposal_time};
 pub use lanes::ordered;
 pub use ranks::select;

@@ -11,7 +11,7 @@ use Rattle.cut_lists.proofs.Ranges.{filter_agree_on, count_by_agree, none_passin
 use Rattle.cut_lists.proofs.Additions.{PassesPart, count_of_more, sum_of_more}
 use Rattle.cut_outcome.specs.Outcome.{outcome}
 use Rattle.range_set.specs.Held as held
-use Rattle.cut_ledger.specs.inside.Kept.{AreSumsOf, sum_at}
+use Rattle.cut_ledger.specs.inside.HeldTrials.{AreSumsOf, sum_at}
 use Rattle.cut_ledger.proofs.Words.{AreKept, IsAdded, IsAtMost, IsTrue, Piece, Slip, Totals, Values}
 use Rattle.cut_ledger.proofs.Words.{count_by, each_number, further_trials, is_in, is_in_base}
 use Rattle.cut_ledger.proofs.Words.{is_piece, list_any, plus, slips_of_cell, sum_by, sum_of, sum_where}

@@ -16,7 +16,7 @@ use Rattle.cut_lists.proofs.Ranks.{count_by_none}
 use Rattle.range_set.specs.Held as held
 use Rattle.cut_ledger.specs.Tally.{Tally, HasAdded, HasJudged, IsTallyOver}
 use Rattle.range_set.specs.declared.span.Span.{Span}
-use Rattle.cut_ledger.specs.inside.Kept.{CanBeAdded, HoldsExactly, span_of}
+use Rattle.cut_ledger.specs.inside.HeldTrials.{CanBeAdded, HoldsExactly, span_of}
 use Rattle.cut_ledger.proofs.Words.{AreGood, AreGoodUpTo, IsFirstBad, IsGood, IsPlan, Piece, Slip, Totals, Values}
 use Rattle.cut_ledger.proofs.Words.{all_trials, count_by, is_in, trial_count}
 use Rattle.cut_ledger.proofs.AddLemmas.{in_base_more}

@@ -5,7 +5,7 @@ pub use Rattle.cut_ledger.specs.Contents.{held_where, is_complete, is_in, is_in_
 pub use Rattle.cut_ledger.specs.Contents.{slip_sum, slips_of_cell, sum_where, with_piece}
 pub use Rattle.cut_ledger.specs.FaultCode.{code_of}
 pub use Rattle.cut_ledger.specs.Gaps.{gaps_of, part_of, parts_of, piece_at, pieces_of}
-pub use Rattle.cut_ledger.specs.inside.Kept.{AreKept, AreOver, IsAdded, contents_in}
+pub use Rattle.cut_ledger.specs.inside.HeldTrials.{AreKept, AreOver, IsAdded, contents_in}
 pub use Rattle.cut_ledger.specs.Machine.{StudyState, accepted_unless, after, available, drawn_piece, failed}
 pub use Rattle.cut_ledger.specs.Machine.{is_finished, opened, refused_code, slip_of, slips_found}
 pub use Rattle.cut_ledger.specs.Machine.{some_slip, start, taken, unless_refused}

@@ -1,6 +1,6 @@
 -- How cut_ledger keeps its values, and what its private functions promise: no contract of a public function cites it.
 pub mod DivisionInside
-pub mod Kept
+pub mod HeldTrials
 pub mod LedgerInside
 pub mod Reached
 pub mod RunInside

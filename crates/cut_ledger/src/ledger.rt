@@ -7,11 +7,11 @@ ghost use Rattle.cut_ledger.specs.Account.{has_room, KeepsRoomOfOthers};
 ghost use Rattle.cut_ledger.specs.Contents.{has, over_base, with_piece, cell_of_piece, cell_done, cell_sum};
 ghost use Rattle.cut_ledger.specs.Contents.{is_complete};
 ghost use Rattle.cut_ledger.specs.Gaps.{gaps_of, parts_of, pieces_of};
-ghost use Rattle.cut_ledger.specs.inside.Kept.{AreOver};
+ghost use Rattle.cut_ledger.specs.inside.HeldTrials.{AreOver};
 ghost use Rattle.cut_ledger.specs.Refusals.{CanTake, refusal_of, fault_of_offer};
 ghost use Rattle.cut_ledger.specs.Slips.{AreGood, IsFaultOfSlips};
 
-use crate::kept::{Kept, is_good, pieces_at, span_of_cell};
+use crate::held_trials::{HeldTrials, is_good, pieces_at, span_of_cell};
 use crate::{Base, Division, OfferFault, Slip, SlipsFault};
 use cut_outcome::{Piece, PieceResult, Totals};
 use cut_plan::Plan;
@@ -26,7 +26,7 @@ use std::marker::Model;
 pub struct Ledger {
     plan: Plan,
     base: Base,
-    kept: Kept,
+    held_trials: HeldTrials,
 }
 
 impl Model for Ledger {
@@ -46,9 +46,9 @@ impl Ledger {
     pub fn fresh(alloc: Global, plan: Plan) -> Result<Ledger, AllocError>
         ensures { IfOk result (λ l. l.contents ≡ over_base plan []) }
     {
-        let kept = Kept::none(alloc, &plan)?;
+        let held_trials = HeldTrials::none(alloc, &plan)?;
         let base = Base::from_vec(Vec::new(alloc));
-        Ok(Ledger { plan, base, kept })
+        Ok(Ledger { plan, base, held_trials })
     }
 
     /// A ledger that holds the trials of slips, with their sums. The fault is the number of the first slip that is not
@@ -58,10 +58,10 @@ impl Ledger {
         ensures good { OnOk result (AreGood plan slips.now) }
         ensures err { IfErr result (λ e. IsFaultOfSlips plan slips.now e) }
     {
-        let mut kept = Kept::none(alloc, &plan)?;
-        add_slips(&mut kept, &plan, slips)?;
+        let mut held_trials = HeldTrials::none(alloc, &plan)?;
+        add_slips(&mut held_trials, &plan, slips)?;
         let base = Base::from_vec(Vec::from_slice(alloc, slips)?);
-        Ok(Ledger { plan, base, kept })
+        Ok(Ledger { plan, base, held_trials })
     }
 
     /// The plan of the study.
@@ -91,7 +91,7 @@ impl Ledger {
         requires { trial < trial_count self.now.contents.plan }
         ensures { result ≡ has self.now.contents trial }
     {
-        self.kept.trials.contains(trial)
+        self.held_trials.trials.contains(trial)
     }
 
     /// Whether every trial of a cell is held.
@@ -99,7 +99,7 @@ impl Ledger {
         requires { cell < length (cells_of self.now.contents.plan) }
         ensures { result ≡ cell_done self.now.contents cell }
     {
-        self.kept.trials.covers(span_of_cell(&self.plan, cell))
+        self.held_trials.trials.covers(span_of_cell(&self.plan, cell))
     }
 
     /// The sums of a cell: the totals of the base's slips, and the outcome of each other held trial, once. There are
@@ -109,7 +109,7 @@ impl Ledger {
         ensures value { result ≡ cell_sum self.now.contents cell }
         ensures few { result.conflicts < 2 ^ 32 }
     {
-        self.kept.sums[cell as usize]
+        self.held_trials.sums[cell as usize]
     }
 
     /// Whether every trial is held.
@@ -120,7 +120,7 @@ impl Ledger {
             first: 0,
             count: self.plan.trials(),
         };
-        self.kept.trials.covers(all)
+        self.held_trials.trials.covers(all)
     }
 
     /// The gaps: the greatest runs of trials that are not held, ascending, none over two cells. Each is a piece of the
@@ -135,7 +135,7 @@ impl Ledger {
         let mut gaps = Vec::new(alloc);
         for cell in 0..self.plan.cells() {
             let span = span_of_cell(&self.plan, cell);
-            self.kept.trials.gaps_into(span, &mut gaps)?;
+            self.held_trials.trials.gaps_into(span, &mut gaps)?;
         }
         pieces_at(alloc, &gaps)
     }
@@ -172,7 +172,7 @@ impl Ledger {
         requires { cell < length (cells_of self.now.contents.plan) }
         ensures { result ≡ has_room self.now cell }
     {
-        self.kept.trials.has_room(cell)
+        self.held_trials.trials.has_room(cell)
     }
 
     /// Reserves room for a piece of a cell.
@@ -182,7 +182,7 @@ impl Ledger {
         ensures room { OnOk result (IsTrue (has_room self.new cell)) }
         ensures err { OnErr result (self.new ≡ self.old) }
     {
-        self.kept.trials.reserve(cell)
+        self.held_trials.trials.reserve(cell)
     }
 
     /// Why a result is not taken, if it is not: it is of another plan, or else a trial of it is held.
@@ -193,7 +193,7 @@ impl Ledger {
         if !self.plan.same(offered.plan()) {
             return Some(OfferFault::Stranger);
         }
-        if self.kept.overlaps(offered.piece()) {
+        if self.held_trials.overlaps(offered.piece()) {
             return Some(OfferFault::Overlap);
         }
         None
@@ -210,7 +210,7 @@ impl Ledger {
             IsOk result }
         ensures err { OnErr result (self.new ≡ self.old) }
     {
-        self.kept.add(&self.plan, offered.piece(), offered.totals())
+        self.held_trials.add(&self.plan, offered.piece(), offered.totals())
     }
 
     /// Takes a result, or refuses it.
@@ -233,17 +233,17 @@ impl Ledger {
 }
 
 /// Adds slips, each after those before it, up to the first that is not good.
-fn add_slips(kept: &mut Kept, plan: &Plan, slips: &[Slip]) -> Result<(), SlipsFault>
-    requires { AreOver plan.now [] kept.old.trials kept.old.sums.items }
-    ensures ok { OnOk result (AreOver plan.now slips.now kept.new.trials kept.new.sums.items) }
+fn add_slips(held_trials: &mut HeldTrials, plan: &Plan, slips: &[Slip]) -> Result<(), SlipsFault>
+    requires { AreOver plan.now [] held_trials.old.trials held_trials.old.sums.items }
+    ensures ok { OnOk result (AreOver plan.now slips.now held_trials.new.trials held_trials.new.sums.items) }
     ensures good { OnOk result (AreGood plan.now slips.now) }
     ensures err { IfErr result (λ e. IsFaultOfSlips plan.now slips.now e) }
 {
     for (i, slip) in slips.iter().enumerate() {
-        if !is_good(&kept.trials, plan, slip) {
+        if !is_good(&held_trials.trials, plan, slip) {
             return Err(SlipsFault::BadSlip(i as u64 + 1));
         }
-        kept.add(plan, slip.piece, slip.totals)?;
+        held_trials.add(plan, slip.piece, slip.totals)?;
     }
     Ok(())
 }

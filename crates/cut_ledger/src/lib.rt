@@ -10,7 +10,7 @@ mod base;
 mod bytes;
 mod division;
 mod event;
-mod kept;
+mod held_trials;
 pub mod laws;
 mod ledger;
 mod offer_fault;

@@ -6,7 +6,7 @@ ghost use Rattle.cut_ledger.specs.Tally.{has_cell, has_trial, HasAdded};
 ghost use Rattle.cut_ledger.specs.declared.slip.Slip as slips;
 
 use crate::Slip;
-use crate::kept::{is_good, span_of, span_of_cell};
+use crate::held_trials::{is_good, span_of, span_of_cell};
 use cut_plan::Plan;
 use range_set::RangeSet;
 use std::alloc::{AllocError, Global};

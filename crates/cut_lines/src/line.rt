@@ -3,7 +3,7 @@ ghost use Rattle.cut_plan.specs.Cells.{cells_of};
 ghost use Rattle.cut_plan.specs.Failing.{version_of};
 ghost use Rattle.cut_lines.specs.Lines.{header, line_with, ppm_of, settled_column};
 
-use crate::row::row;
+use crate::row::write_row;
 use cut_outcome::Totals;
 use cut_plan::{Plan, Version};
 use std::alloc::{AllocError, Global};
@@ -58,7 +58,7 @@ pub fn cell_line(
     let mut columns = Vec::from_slice(alloc, first.as_slice())?;
     push_settled(&mut columns, plan, totals)?;
     columns.push(ppm_of(totals))?;
-    row(alloc, columns.as_slice())
+    write_row(alloc, columns.as_slice())
 }
 
 /// Adds the column of `settled`, if the plan's tables have it.

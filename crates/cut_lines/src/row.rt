@@ -7,7 +7,7 @@ use csv::{ByteRecord, WriterBuilder};
 use std::alloc::{AllocError, Global};
 
 /// A line of a table: numbers in decimal with commas between them, and a line feed.
-pub(crate) fn row(alloc: Global, numbers: &[u64]) -> Result<Vec<u8>, AllocError>
+pub(crate) fn write_row(alloc: Global, numbers: &[u64]) -> Result<Vec<u8>, AllocError>
     requires { 0 < length numbers.now }
     ensures text { IfOk result (λ text. text.items ≡ comma_line numbers.now) }
     ensures short { IfOk result (λ text. length text.items ≤ 21 * length numbers.now) }

@@ -20,7 +20,7 @@ use Rattle.cut_join.specs.Joining.{EndsJoin}
 use Rattle.cut_migration.specs.declared.fault.MigrateFault.TheVariants as migration
 use Rattle.cut_commands.specs.declared.fault.CliFault.{CliFault}
 use Rattle.cut_commands.specs.declared.fault.CliFault.TheVariants.{Memory, Migrate}
-use Rattle.cut_machines.specs.inside.JoinSources.{fault_of}
+use Rattle.cut_machines.specs.inside.JoinSources.{cli_fault_of}
 use Rattle.cut_machines.specs.JoinTarget.{LeavesDisk}
 use Rattle.cut_commands.specs.NewStudy.{IsBegun, SaysAllOf}
 use Rattle.cut_commands.proofs.NewStudies.{GoesOn, appends_first, none_next, one_next, since_made, taken_first}
@@ -93,7 +93,7 @@ all_written v ss n old new before after is ends kept file =
 
 -- why not all were
 pub filling_stops : {D : Type 0} (fault : JoinFault) (v : Values) (ss : List Slip) (old new : JournalValue D)
-    → AreGood v ss → IsNewJournal v old → EndsJoin (Err fault) v ss old new → StopsFilling (fault_of fault)
+    → AreGood v ss → IsNewJournal v old → EndsJoin (Err fault) v ss old new → StopsFilling (cli_fault_of fault)
 filling_stops join.Memory v ss old new good is ends = tt
 filling_stops (join.BadSlip n) v ss old new good is ends = absurd (none_bad v ss n good ends.0)
 filling_stops join.OtherPlan v ss old new good is ends = absurd (ends.1 is.plan)

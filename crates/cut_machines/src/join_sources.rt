@@ -6,7 +6,7 @@ ghost use Rattle.cut_files.specs.Place as place;
 ghost use Rattle.cut_ledger.specs.Slips.{AreGood};
 ghost use Rattle.cut_machines.specs.JoinSources.{AreRead, HoldAll, Holds, StopsReading};
 ghost use Rattle.cut_machines.specs.inside.JoinSources.{AddsHeld, HaveBadSlip, IsUnopened, IsUnread, LeavesFile};
-ghost use Rattle.cut_machines.specs.inside.JoinSources.{NamesFile, StaysOpen, fault_of, refused_at};
+ghost use Rattle.cut_machines.specs.inside.JoinSources.{NamesFile, StaysOpen, cli_fault_of, refused_at};
 
 use cut_commands::CliFault;
 use cut_disks::Disk;
@@ -41,11 +41,11 @@ pub(crate) fn judged_slips<F: Files>(
         plan.now e.fault e.refused) }
     ensures stays { StaysOpen (F.log files.old) (F.log files.new) }
 {
-    judged(alloc, plan, slips_of_all(files, alloc, plan, paths)?)
+    check_slips(alloc, plan, slips_of_all(files, alloc, plan, paths)?)
 }
 
 /// Slips of a plan, if a ledger can begin with them.
-fn judged(alloc: Global, plan: &Plan, slips: Vec<Slip>) -> Result<Vec<Slip>, Unjoined>
+fn check_slips(alloc: Global, plan: &Plan, slips: Vec<Slip>) -> Result<Vec<Slip>, Unjoined>
     ensures same { IfOk result (λ found. found.items ≡ slips.items) }
     ensures good { IfOk result (λ found. AreGood plan.now found.items) }
     ensures stops { IfErr result (λ e. HaveBadSlip plan.now slips.items e.fault) }
@@ -54,7 +54,7 @@ fn judged(alloc: Global, plan: &Plan, slips: Vec<Slip>) -> Result<Vec<Slip>, Unj
     match judge(alloc, plan, &slips) {
         Ok(()) => Ok(slips),
         Err(fault) => Err(Unjoined {
-            fault: fault_of(fault),
+            fault: cli_fault_of(fault),
             refused: None,
         }),
     }
@@ -145,8 +145,8 @@ fn slips_on<O: Disk + Drop>(alloc: Global, plan: &Plan, disk: O) -> (Result<Vec<
 }
 
 /// The fault of a join as the program reports it. A disk that fails is reported as a migration does.
-pub(crate) fn fault_of(fault: JoinFault) -> CliFault
-    ensures { result ≡ fault_of fault }
+pub(crate) fn cli_fault_of(fault: JoinFault) -> CliFault
+    ensures { result ≡ cli_fault_of fault }
 {
     match fault {
         JoinFault::Memory => CliFault::Memory,

@@ -9,7 +9,7 @@ ghost use Rattle.cut_machines.specs.JoinTarget.{LeavesDisk, StopsWriting};
 ghost use Rattle.cut_machines.specs.inside.JoinTarget.{IsNewJournal, IsPartWritten};
 ghost use Rattle.cut_machines.specs.inside.JoinTarget.{StopsFilling};
 
-use crate::join_sources::fault_of;
+use crate::join_sources::cli_fault_of;
 use cut_commands::CliFault;
 use cut_disks::Disk;
 use cut_join::join;
@@ -41,7 +41,7 @@ pub(crate) fn write_joined<N: Disk + Drop>(
     ensures faults { (N.log result.disk).failed ≡ writing_faults result.count (N.log disk).failed }
 {
     match Journal::claim(alloc, disk, plan) {
-        Ok(journal) => fill(alloc, plan, slips, journal),
+        Ok(journal) => fill_journal(alloc, plan, slips, journal),
         Err((fault, disk)) => Written {
             disk,
             count: Err(CliFault::from(fault)),
@@ -50,7 +50,7 @@ pub(crate) fn write_joined<N: Disk + Drop>(
 }
 
 /// Writes slips, joined, to a journal of their plan that has none yet.
-fn fill<N: Disk>(alloc: Global, plan: &Plan, slips: &[Slip], journal: Journal<N>) -> Written<N>
+fn fill_journal<N: Disk>(alloc: Global, plan: &Plan, slips: &[Slip], journal: Journal<N>) -> Written<N>
     requires good { AreGood plan.now slips.now }
     requires new { IsNewJournal plan.now journal }
     ensures part { IsKnown (N.log journal.disk) →
@@ -65,7 +65,7 @@ fn fill<N: Disk>(alloc: Global, plan: &Plan, slips: &[Slip], journal: Journal<N>
     let mut journal = journal;
     let count = match join(alloc, plan, slips, &mut journal) {
         Ok(count) => Ok(count),
-        Err(fault) => Err(fault_of(fault)),
+        Err(fault) => Err(cli_fault_of(fault)),
     };
     Written {
         disk: journal.into_disk(),

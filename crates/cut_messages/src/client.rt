@@ -8,7 +8,7 @@ use crate::frame::send_message;
 use crate::replies::{AnswerState, take_piece};
 use crate::side::LONGEST_PAYLOAD;
 use crate::{AskFault, Kind, Reader};
-use cut_wires::{Line, Sent, Wire};
+use cut_wires::{CountingWriter, Sent, Wire};
 use std::alloc::Global;
 
 /// How many bytes a read brings at most.
@@ -64,16 +64,16 @@ fn send_request<W: Wire>(wire: &mut W, plan_text: &[u8]) -> Result<(), Sent>
     requires { length plan_text.now ≤ LONGEST_PAYLOAD }
     ensures { Requests result plan_text.now (W.log wire.old) (W.log wire.new) }
 {
-    send_both(&mut Line::new(wire), plan_text)
+    send_both(&mut CountingWriter::new(wire), plan_text)
 }
 
 /// Sends both, and counts the bytes.
-fn send_both<W: Wire>(line: &mut Line<'_, W>, plan_text: &[u8]) -> Result<(), Sent>
+fn send_both<W: Wire>(writer: &mut CountingWriter<'_, W>, plan_text: &[u8]) -> Result<(), Sent>
     requires { length plan_text.now ≤ LONGEST_PAYLOAD }
-    ensures { Sends result (request plan_text.now) (sending W.log line.old) (sending W.log line.new) }
+    ensures { Sends result (request plan_text.now) (sending W.log writer.old) (sending W.log writer.new) }
 {
-    match send_message(line, Kind::Submit, plan_text) {
-        Ok(()) => send_message(line, Kind::Quit, &[]),
+    match send_message(writer, Kind::Submit, plan_text) {
+        Ok(()) => send_message(writer, Kind::Quit, &[]),
         Err(fault) => Err(fault),
     }
 }

@@ -7,32 +7,32 @@ ghost use Rattle.cut_messages.specs.Frames.{frame};
 
 use crate::Kind;
 use crate::prefix::HEAD;
-use cut_wires::{Framing, Line, Sent, Wire};
+use cut_wires::{Encoding, CountingWriter, Sent, Wire};
 
 /// The most bytes of a frame that is handed to the wire by one write.
 const BUFFER: usize = 512;
 
-/// Sends a message over a line. A message of at most 512 bytes is handed to the wire by one write.
-pub fn send_message<W: Wire>(line: &mut Line<'_, W>, kind: Kind, payload: &[u8]) -> Result<(), Sent>
+/// Sends a message by a counting writer. A message of at most 512 bytes is handed to the wire by one write.
+pub fn send_message<W: Wire>(writer: &mut CountingWriter<'_, W>, kind: Kind, payload: &[u8]) -> Result<(), Sent>
     requires { length payload.now ≤ LONGEST_PAYLOAD }
-    ensures { Sends result (frame kind payload.now) (sending W.log line.old) (sending W.log line.new) }
+    ensures { Sends result (frame kind payload.now) (sending W.log writer.old) (sending W.log writer.new) }
 {
     if payload.len() > BUFFER - HEAD {
-        return send_parts(line, kind, payload);
+        return send_parts(writer, kind, payload);
     }
     let mut buffer = [0; BUFFER];
     put_message(&mut buffer, kind, payload);
-    line.send(&buffer[..HEAD + payload.len()])
+    writer.send(&buffer[..HEAD + payload.len()])
 }
 
 /// Sends the same by one write for what precedes the payload, and others for the payload.
-fn send_parts<W: Wire>(line: &mut Line<'_, W>, kind: Kind, payload: &[u8]) -> Result<(), Sent>
+fn send_parts<W: Wire>(writer: &mut CountingWriter<'_, W>, kind: Kind, payload: &[u8]) -> Result<(), Sent>
     requires { length payload.now ≤ LONGEST_PAYLOAD }
-    ensures { Sends result (frame kind payload.now) (sending W.log line.old) (sending W.log line.new) }
+    ensures { Sends result (frame kind payload.now) (sending W.log writer.old) (sending W.log writer.new) }
 {
     let head = head_of(kind, payload.len() as u32);
-    match line.send(head.as_slice()) {
-        Ok(()) => line.send(payload),
+    match writer.send(head.as_slice()) {
+        Ok(()) => writer.send(payload),
         Err(fault) => Err(fault),
     }
 }
@@ -58,16 +58,16 @@ fn head_of(kind: Kind, length: u32) -> [u8; 5]
 }
 
 /// A text is sent as a message that carries a line of a table.
-pub struct RowMessages;
+pub struct FramedRows;
 
-impl Framing for RowMessages {
+impl Encoding for FramedRows {
     ghost use Rattle.std.proofs.Common.{arith, length-append};
     ghost use Rattle.cut_messages.specs.declared.kind.Kind.TheVariants.{Row};
 
     ghost framed = { λ text. frame Row text };
 
-    fn send<W: Wire>(line: &mut Line<'_, W>, text: &[u8]) -> Result<(), Sent> {
-        send_message(line, Kind::Row, text)
+    fn send<W: Wire>(writer: &mut CountingWriter<'_, W>, text: &[u8]) -> Result<(), Sent> {
+        send_message(writer, Kind::Row, text)
     }
 
     ghost short = { λ text. Prim.omega (arith, length-append (to_be_bytes w32 (length text)) text) };

@@ -7,9 +7,9 @@
 //! length above 65,536, or a length that is wrong for the kind, in that order. [`laws`] say that a stream has one
 //! reading.
 //!
-//! [`send_message`] sends one message over a line, [`RowMessages`] frames the rows of a table, and [`ask`] sends a plan
-//! and writes the lines of the answer. What they say of the bytes on their wires holds if the wire's log has them; that
-//! a failed read or write is reported only where one failed holds over every wire.
+//! [`send_message`] sends one message by a counting writer, [`FramedRows`] frames the rows of a table, and [`ask`]
+//! sends a plan and writes the lines of the answer. What they say of the bytes on their wires holds if the wire's log
+//! has them; that a failed read or write is reported only where one failed holds over every wire.
 #![tactic(auto)]
 
 mod client;
@@ -29,7 +29,7 @@ mod split;
 pub use client::ask;
 pub use fault::{AskFault, EndFault, StreamFault};
 pub use fed::Fed;
-pub use frame::{RowMessages, send_message};
+pub use frame::{FramedRows, send_message};
 pub use kind::Kind;
 pub use message::Message;
 pub use payload::Payload;

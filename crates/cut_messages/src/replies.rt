@@ -68,13 +68,13 @@ fn pass<O: Wire>(message: &Message, output: &mut O) -> Result<AnswerState, AskFa
             Err(_) => Err(AskFault::Output),
         },
         Kind::Done => Ok(AnswerState::Done),
-        Kind::Fault => Err(AskFault::Reported(number_in(payload))),
+        Kind::Fault => Err(AskFault::Reported(read_fault_number(payload))),
         Kind::Submit | Kind::Count | Kind::Quit => Ok(AnswerState::More),
     }
 }
 
 /// The number that stands in the first two bytes.
-fn number_in(bytes: &[u8]) -> u16
+fn read_fault_number(bytes: &[u8]) -> u16
     ensures { result ≡ from_be_bytes w16 bytes.now }
 {
     match bytes {

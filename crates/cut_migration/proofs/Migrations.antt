@@ -21,7 +21,7 @@ use Rattle.cut_migration.specs.declared.fault.MigrateFault.TheVariants.{Disagree
 use Rattle.cut_journal.specs.Journal.{JournalValue, AppendsEach, IsAppendFault, IsFileOf, LeavesAppend}
 use Rattle.cut_journal.specs.Journal.{kept_slips, taken}
 use Rattle.cut_migration.specs.Migration.{moved, first_moved, AreTrueUpTo}
-use Rattle.cut_migration.specs.inside.Migration.{fault_of}
+use Rattle.cut_migration.specs.inside.Migration.{migrate_fault_of}
 use Rattle.cut_migration.specs.Migration.{CanMove, EndsMigration, HasMoved}
 use Rattle.cut_migration.specs.inside.Migration.{MovesOne}
 use Rattle.cut_journal.proofs.Series.{each_then, none_of}
@@ -39,7 +39,7 @@ pub append_failed : {D : Type 0} (e : JournalFault) (v : Values) (number : ℕ) 
     → IsAppendFault e → (IsErrOf {T = ℕ} (Err e) journal.OtherPlan → ⊥)
     → (IsErrOf {T = ℕ} (Err e) journal.Broken ↔ IsSome old.doubtful)
     → LeavesAppend (Err e) slip old new → slip ≡ moved v s → IsTrueSlip v s
-    → MovesOne {T = ⊤} (Err (fault_of e)) v number s old new
+    → MovesOne {T = ⊤} (Err (migrate_fault_of e)) v number s old new
 append_failed journal.Memory v number s slip old new may other broken left is holds = absurd may
 append_failed journal.Disk v number s slip old new may other broken left is holds =
     (holds, left.0, left.1, none_of old.doubtful (λ some. cc (broken.1 some)), left.2 ∙ ap (λ (x : Slip). Some x) is)

@@ -10,7 +10,7 @@ ghost use Rattle.cut_ledger.specs.Slips.{AreGood};
 ghost use Rattle.cut_ledger.specs.World.{IsTrueSlip};
 ghost use Rattle.cut_journal.specs.Journal.{AppendsEach, kept_slips, taken};
 ghost use Rattle.cut_migration.specs.Migration.{EndsMigration, first_moved};
-ghost use Rattle.cut_migration.specs.inside.Migration.{IsJudgedBy, MovesOne, fault_of};
+ghost use Rattle.cut_migration.specs.inside.Migration.{IsJudgedBy, MovesOne, migrate_fault_of};
 ghost use Rattle.cut_migration.specs.Migration.{moved, moving_faults};
 ghost use Rattle.cut_migration.specs.inside.Migration.{kept_after};
 
@@ -161,13 +161,13 @@ fn move_slip<D: Disk>(
     }
     match journal.append(&result) {
         Ok(_) => Ok(()),
-        Err(fault) => Err(fault_of(fault)),
+        Err(fault) => Err(migrate_fault_of(fault)),
     }
 }
 
 /// The fault of an append, as a migration answers it.
-fn fault_of(fault: JournalFault) -> MigrateFault
-    ensures { result ≡ fault_of fault }
+fn migrate_fault_of(fault: JournalFault) -> MigrateFault
+    ensures { result ≡ migrate_fault_of fault }
 {
     match fault {
         JournalFault::Disk => MigrateFault::Disk,

@@ -1,10 +1,10 @@
-//! Ranks beside a plain sort, and closings beside a search through all times.
+//! Ranks beside a plain sort, and proposal times beside a search through all times.
 ghost use Rattle.std.specs.Prelude.{◌≡◌, ℕ, ◌<◌, ◌≤◌, length, slice_index, All, IfOk};
 ghost use Rattle.cut_blocks.specs.Images.{never};
 ghost use Rattle.cut_lanes.specs.Lanes.{lane};
 
 use cut_blocks::NEVER;
-use cut_lanes::{Closing, close, ordered, select};
+use cut_lanes::{ProposalTime, compute_proposal_time, ordered, select};
 use rand_chacha::ChaCha8Rng;
 use rand_core::SeedableRng;
 use rand_core::utils::NextWord;
@@ -53,23 +53,23 @@ fn drawn(
 }
 
 /// Draws an end for each beginning: less than 20 after it.
-fn drawn_highs(
+fn drawn_stable_at(
     alloc: Global,
     words: &mut ChaCha8Rng,
-    lows: &[u32x4],
+    reported_at: &[u32x4],
     bound: u32,
 ) -> Result<Vec<u32x4>, AllocError>
-    ensures { IfOk result (λ v. length v.items ≡ length lows.now) }
+    ensures { IfOk result (λ v. length v.items ≡ length reported_at.now) }
 {
-    let mut highs = Vec::new(alloc);
-    for low in lows {
+    let mut stable_at = Vec::new(alloc);
+    for low in reported_at {
         let width = u32x4::splat(words.next_word() % 20);
-        highs.push(
+        stable_at.push(
             low.simd_max(drawn_times(words, bound))
                 .simd_min(*low + width),
         )?;
     }
-    Ok(highs)
+    Ok(stable_at)
 }
 
 /// The times of one receiver.
@@ -137,17 +137,17 @@ fn ranks_are_those_of_sorted_times(rt: HostRuntime) -> Result<(), Fail> {
 }
 
 /// What closes at a receiver, found by a search through all times below a bound.
-fn closing_by_search(lows: &[u32], highs: &[u32], first: u32, bound: u32) -> u32 {
+fn proposal_time_by_search(reported_at: &[u32], stable_at: &[u32], first: u32, bound: u32) -> u32 {
     for time in 0..bound {
-        if is_enough(lows, highs, first, time) {
+        if is_enough(reported_at, stable_at, first, time) {
             return time;
         }
     }
     NEVER
 }
 
-fn is_enough(lows: &[u32], highs: &[u32], first: u32, time: u32) -> bool {
-    for (low, high) in lows.iter().zip(highs) {
+fn is_enough(reported_at: &[u32], stable_at: &[u32], first: u32, time: u32) -> bool {
+    for (low, high) in reported_at.iter().zip(stable_at) {
         if (*low <= first || *low < time) && *high > time {
             return false;
         }
@@ -166,25 +166,25 @@ fn count_of(times: &[u32], time: u32) -> usize {
     count
 }
 
-/// Whether a receiver's closing is what a search finds.
+/// Whether a receiver's proposal time is what a search finds.
 fn is_right(
     alloc: Global,
-    lows: &[u32x4],
-    highs: &[u32x4],
-    closing: &Closing,
+    reported_at: &[u32x4],
+    stable_at: &[u32x4],
+    proposal_time: &ProposalTime,
     lane: usize,
 ) -> Result<bool, AllocError> {
     let lane = lane % 4;
-    let lows = lane_of(alloc, lows, lane)?;
-    let highs = lane_of(alloc, highs, lane)?;
-    let first = rank_by_sorting(alloc, lows.as_slice(), 1)?;
-    let time = closing_by_search(lows.as_slice(), highs.as_slice(), first, 200);
-    let doubt = count_of(lows.as_slice(), first) > 1
-        || (first < time && count_of(lows.as_slice(), time) > 0);
+    let reported_at = lane_of(alloc, reported_at, lane)?;
+    let stable_at = lane_of(alloc, stable_at, lane)?;
+    let first = rank_by_sorting(alloc, reported_at.as_slice(), 1)?;
+    let time = proposal_time_by_search(reported_at.as_slice(), stable_at.as_slice(), first, 200);
+    let doubt = count_of(reported_at.as_slice(), first) > 1
+        || (first < time && count_of(reported_at.as_slice(), time) > 0);
     Ok(
-        closing.first.to_array()[lane] == first
-            && closing.time.to_array()[lane] == time
-            && ((closing.doubt >> lane) & 1 == 1) == doubt,
+        proposal_time.first.to_array()[lane] == first
+            && proposal_time.time.to_array()[lane] == time
+            && ((proposal_time.doubt >> lane) & 1 == 1) == doubt,
     )
 }
 
@@ -195,11 +195,11 @@ fn closings_are_those_of_a_search(rt: HostRuntime) -> Result<(), Fail> {
     for number in 0..500 {
         let many = 1 + number % 12;
         for bound in [8, 30, 100] {
-            let lows = drawn(alloc, &mut words, many, bound)?;
-            let highs = drawn_highs(alloc, &mut words, lows.as_slice(), bound)?;
-            let closing = close(lows.as_slice(), highs.as_slice());
+            let reported_at = drawn(alloc, &mut words, many, bound)?;
+            let stable_at = drawn_stable_at(alloc, &mut words, reported_at.as_slice(), bound)?;
+            let proposal_time = compute_proposal_time(reported_at.as_slice(), stable_at.as_slice());
             for lane in 0..4 {
-                let right = is_right(alloc, lows.as_slice(), highs.as_slice(), &closing, lane)?;
+                let right = is_right(alloc, reported_at.as_slice(), stable_at.as_slice(), &proposal_time, lane)?;
                 assert!(rt; right, "{number} {bound} {lane}");
             }
         }

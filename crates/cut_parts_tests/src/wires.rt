@@ -1,7 +1,7 @@
 ghost use Rattle.std.specs.Prelude.{[], ◌∷◌};
 
 use cut_wires::{
-    FaultyWire, Line, MemoryWire, Plain, Rows, RowsFault, Sent, StreamWire, Wire, send_all,
+    FaultyWire, CountingWriter, MemoryWire, PlainRows, RowSource, RowsFault, Sent, StreamWire, Wire, send_all,
     send_rows,
 };
 use std::alloc::Global;
@@ -87,23 +87,23 @@ fn a_wire_of_streams_moves_bytes(rt: HostRuntime) {
     assert!(rt; moves_over_streams(wire));
 }
 
-/// Whether a line sends these bytes, or fails after some if a fault is to come, and has sent this many then.
-fn sends<W: Wire>(line: &mut Line<'_, W>, bytes: &[u8], end: Result<(), Sent>, sent: u64) -> bool {
-    line.send(bytes) == end && line.sent() == sent
+/// Whether a counting writer sends these bytes, or fails after some if a fault is to come, and has sent this many then.
+fn sends<W: Wire>(writer: &mut CountingWriter<'_, W>, bytes: &[u8], end: Result<(), Sent>, sent: u64) -> bool {
+    writer.send(bytes) == end && writer.sent() == sent
 }
 
-/// Whether a line over a wire counts three bytes, and two more before a write fails.
+/// Whether a counting writer over a wire counts three bytes, and two more before a write fails.
 fn counts(wire: &mut FaultyWire) -> bool {
-    let mut line = Line::new(wire);
-    sends(&mut line, b"abc", Ok(()), 3) && sends(&mut line, b"def", Err(Sent { sent: 5 }), 5)
+    let mut writer = CountingWriter::new(wire);
+    sends(&mut writer, b"abc", Ok(()), 3) && sends(&mut writer, b"def", Err(Sent { sent: 5 }), 5)
 }
 
 #[test]
 fn a_line_counts_what_it_sends(rt: HostRuntime) {
     let mut wire = FaultyWire::new(rt.alloc(), Vec::new(rt.alloc()), 2, 5, 0);
     assert!(rt; counts(&mut wire));
-    let mut line = Line::after(&mut wire, u64::MAX - 1);
-    assert!(rt; sends(&mut line, b"xyz", Ok(()), u64::MAX));
+    let mut writer = CountingWriter::after(&mut wire, u64::MAX - 1);
+    assert!(rt; sends(&mut writer, b"xyz", Ok(()), u64::MAX));
     assert!(rt; wire.taken() == b"abcdexyz".as_slice());
 }
 
@@ -114,7 +114,7 @@ struct Letters {
     is_whole: bool,
 }
 
-impl Rows for Letters {
+impl RowSource for Letters {
     type Fault = ();
 
     ghost use Rattle.std.specs.Prelude.{⊤};
@@ -152,9 +152,9 @@ impl Rows for Letters {
 
 /// Writes the table of letters over a wire.
 fn send_letters(alloc: Global, is_whole: bool, wire: &mut FaultyWire) -> Result<(), RowsFault<()>> {
-    let mut line = Line::new(wire);
+    let mut writer = CountingWriter::new(wire);
     let mut rows = Letters { alloc, is_whole };
-    send_rows::<Plain, Letters, FaultyWire>(&mut rows, &mut line)
+    send_rows::<PlainRows, Letters, FaultyWire>(&mut rows, &mut writer)
 }
 
 /// Whether these bytes of the table are written over a wire with this room, and how that ends.

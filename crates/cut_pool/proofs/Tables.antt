@@ -22,7 +22,7 @@ use Rattle.cut_wires.specs.Log.{WireLog, wrote, write_failed}
 use Rattle.cut_wires.specs.Rows.{SendsRows, rows_to}
 use Rattle.cut_wires.specs.Sending.{Sending}
 use Rattle.cut_slots.specs.declared.next_row_fault.NextRowFault.{NextRowFault}
-use Rattle.cut_pool.specs.inside.Emission.{EmitsStudy, Worked, emitted, lines_of}
+use Rattle.cut_pool.specs.inside.Emission.{EmitsStudy, Worked, emit_result_of, lines_of}
 use Rattle.cut_slots.specs.Lines.{full_line}
 use Rattle.cut_slots.specs.Pass.{Holding}
 
@@ -76,7 +76,7 @@ kept v base name pass new_name new_pass (Err (Row fault)) old new s = (s.ends.1.
 pub made_all : (v : Values) (base : List Slip) (name : GName) (pass : Holding) (new_name : GName) (new_pass : Holding)
     (result : Result ⊤ (RowsFault NextRowFault)) (sent : ℕ) (old new : Sending)
     → SendsLines v base name pass new_name new_pass result old new
-    → OnOk (emitted result sent) (pass.made + length (cells_of v) ≤ new_pass.made)
+    → OnOk (emit_result_of result sent) (pass.made + length (cells_of v) ≤ new_pass.made)
 made_all v base name pass new_name new_pass (Ok done) sent old new s = omega (arith, s.ends.1.made, s.ends.0)
 made_all v base name pass new_name new_pass (Err fault) sent old new s = tt
 
@@ -85,11 +85,11 @@ sent_first : (xs : List ℕ) (n rows k : ℕ) → n ≤ rows → rows < 2 ^ 32 �
     → min (0 + length (take k xs)) (2 ^ 64 - 1) ≡ k
 sent_first xs n rows k few many short low = omega (arith, few, many, short, low, length-take-le k xs low)
 
--- what the wire took of the table, by what was sent of its lines over a line that had sent nothing
+-- what the wire took of the table, by what was sent of its lines by a counting writer that had sent nothing
 emits : (v : Values) (base : List Slip) (name : GName) (pass : Holding) (new_name : GName) (new_pass : Holding)
     (wire : GName) (log : WireLog) (result : Result ⊤ (RowsFault NextRowFault)) (new : Sending)
     → SendsLines v base name pass new_name new_pass result (record { wire = wire; log = log; sent = 0 }) new
-    → EmitsStudy (table_over v base) (emitted result new.sent) log new.log
+    → EmitsStudy (table_over v base) (emit_result_of result new.sent) log new.log
 emits v base name pass new_name new_pass wire log (Ok done) new s =
     grind (arith, table_ends)
 emits v base name pass new_name new_pass wire log (Err (Write fault)) new s =
@@ -121,12 +121,13 @@ emits v base name pass new_name new_pass wire log (Err (Row fault)) new s =
           ∙ take-append_seam xs (lines_after v base s.count))),
     )
 
--- and what its wire has taken once the line is given up
+-- and what its wire has taken once the writer is given up
 pub emits_at : {X : Type 0} (log : X → WireLog) (v : Values) (base : List Slip) (name : GName) (pass : Holding)
     (new_name : GName) (new_pass : Holding) (result : Result ⊤ (RowsFault NextRowFault)) (first last after : X)
     (wire other : GName) (sent : ℕ) (old : Sending) → old ≡ record { wire = wire; log = log first; sent = 0 }
     → SendsLines v base name pass new_name new_pass result old (record { wire = other; log = log last; sent = sent })
-    → (wire ≡ other → after ≡ last) → EmitsStudy (table_over v base) (emitted result sent) (log first) (log after)
+    → (wire ≡ other → after ≡ last) → EmitsStudy (table_over v base) (emit_result_of result sent) (log first)
+    (log after)
 emits_at log v base name pass new_name new_pass result first last after wire other sent old fresh sends leaves =
     let new : Sending = record { wire = other; log = log last; sent = sent } in
     grind (arith, emits v base name pass new_name new_pass wire (log first) result new)

@@ -1,13 +1,13 @@
 ghost use Rattle.std.specs.Prelude.{◌≡◌, ◌+◌, ◌<◌, ◌≤◌, length, OnOk};
 ghost use Rattle.cut_plan.specs.Cells.{cells_of};
 ghost use Rattle.cut_ledger.specs.Table.{table_over};
-ghost use Rattle.cut_pool.specs.inside.Emission.{EmitsStudy, emitted};
+ghost use Rattle.cut_pool.specs.inside.Emission.{EmitsStudy, emit_result_of};
 
 use cut_book::Opened;
 use cut_disks::Disk;
 use cut_hall::{CallLedger, Gate, Hall, NextRowFault, Pass, StudyCell};
 use cut_lines::header;
-use cut_wires::{Line, Plain, Rows, RowsFault, Wire, send_rows};
+use cut_wires::{CountingWriter, PlainRows, RowSource, RowsFault, Wire, send_rows};
 use std::alloc::Global;
 use std::sync::Wait;
 
@@ -28,7 +28,7 @@ pub(crate) struct StudyRows<'a, D: Disk, M: CallLedger, K: CallLedger, G, R> {
     ghost slot: { opened.now.study < hall.now.slots },
 }
 
-impl<D, M, K, G, R> Rows for StudyRows<'_, D, M, K, G, R>
+impl<D, M, K, G, R> RowSource for StudyRows<'_, D, M, K, G, R>
 where
     D: Disk + Drop,
     M: CallLedger,
@@ -92,14 +92,14 @@ where
     ensures made { OnOk result (rows.old.pass.now.made + length (cells_of rows.old.opened.now.plan)
         ≤ rows.new.pass.now.made) }
 {
-    let mut line = Line::new(wire);
-    let result = send_rows::<Plain, StudyRows<'_, D, M, K, G, R>, W>(rows, &mut line);
-    emitted(result, line.sent())
+    let mut writer = CountingWriter::new(wire);
+    let result = send_rows::<PlainRows, StudyRows<'_, D, M, K, G, R>, W>(rows, &mut writer);
+    emit_result_of(result, writer.sent())
 }
 
 /// The result of writing a table, by the result of sending its lines and the number of bytes sent.
-fn emitted(outcome: Result<(), EmitFault>, sent: u64) -> Result<u64, EmitFault>
-    ensures { result ≡ emitted outcome sent }
+fn emit_result_of(outcome: Result<(), EmitFault>, sent: u64) -> Result<u64, EmitFault>
+    ensures { result ≡ emit_result_of outcome sent }
 {
     match outcome {
         Ok(()) => Ok(sent),

@@ -131,7 +131,7 @@ impl<D: Disk + Drop, M: CallLedger, K: CallLedger> PrivateHall<D, M, K> {
         } = self;
         let tools = Env { rt, alloc, gate };
         let sent = stream(tools, &hall, &opened, &mut crew, wire);
-        (sent, closed(alloc, hall, crew))
+        (sent, close_hall(alloc, hall, crew))
     }
 }
 
@@ -295,7 +295,7 @@ where
 }
 
 /// Closes a hall with the passes of its workers. Passes are missing only if memory ran out.
-fn closed<D, M, K>(
+fn close_hall<D, M, K>(
     alloc: Global,
     hall: Hall<D, M, K>,
     crew: WorkerPasses<M>,

@@ -193,12 +193,12 @@ where
     let has_journal = begun.book.journal().is_some();
     let hall = PrivateHall::<D, M, K>::open(alloc, begun, blanks)?;
     let (sent, closed) = hall.run(rt, alloc, wire, gate);
-    concluded(sent, closed, has_journal)
+    conclude_run(sent, closed, has_journal)
 }
 
 /// The answer of a run, by how the writing of its table ended and how its hall was closed. A write that failed is
 /// reported before anything else. If all was written, the report is looked at once more: every trial has to be held.
-fn concluded(
+fn conclude_run(
     sent: Result<u64, EmitFault>,
     closed: Result<Report, RunFault>,
     has_journal: bool,

@@ -9,28 +9,28 @@ pub record IsLeast (xs : List ℕ) (x : ℕ) : Type 0 where
   pub among : Contains xs x
 
 -- by w has ended what began at the first beginning of all, and what began before w
-pub record IsEnough (first : ℕ) (lows highs : List ℕ) (w : ℕ) : Type 0 where
-  pub begun : (u : ℕ) → u < length lows → slice_index lows u ≤ first → slice_index highs u ≤ w
-  pub before : (u : ℕ) → u < length lows → slice_index lows u < w → slice_index highs u ≤ w
+pub record IsEnough (first : ℕ) (reported_at stable_at : List ℕ) (w : ℕ) : Type 0 where
+  pub begun : (u : ℕ) → u < length reported_at → slice_index reported_at u ≤ first → slice_index stable_at u ≤ w
+  pub before : (u : ℕ) → u < length reported_at → slice_index reported_at u < w → slice_index stable_at u ≤ w
 
 -- the least such time
-pub record IsClosing (first : ℕ) (lows highs : List ℕ) (time : ℕ) : Type 0 where
-  pub enough : IsEnough first lows highs time
-  pub least : (w : ℕ) → IsEnough first lows highs w → time ≤ w
+pub record IsClosing (first : ℕ) (reported_at stable_at : List ℕ) (time : ℕ) : Type 0 where
+  pub enough : IsEnough first reported_at stable_at time
+  pub least : (w : ℕ) → IsEnough first reported_at stable_at w → time ≤ w
 
 -- by this time has ended what began at the first beginning of all, and it is after no time that is enough
-pub record IsBegun (first : ℕ) (lows highs : List ℕ) (time : ℕ) : Type 0 where
-  pub ended : (u : ℕ) → u < length lows → slice_index lows u ≤ first → slice_index highs u ≤ time
-  pub least : (w : ℕ) → IsEnough first lows highs w → time ≤ w
+pub record IsBegun (first : ℕ) (reported_at stable_at : List ℕ) (time : ℕ) : Type 0 where
+  pub ended : (u : ℕ) → u < length reported_at → slice_index reported_at u ≤ first → slice_index stable_at u ≤ time
+  pub least : (w : ℕ) → IsEnough first reported_at stable_at w → time ≤ w
 
 -- a later time, by which has ended what began before an earlier one, and which is after no time that is enough if that
 -- one is not
-pub record IsRaised (first : ℕ) (lows highs : List ℕ) (old new : ℕ) : Type 0 where
+pub record IsRaised (first : ℕ) (reported_at stable_at : List ℕ) (old new : ℕ) : Type 0 where
   pub later : old ≤ new
-  pub ended : (u : ℕ) → u < length lows → slice_index lows u < old → slice_index highs u ≤ new
-  pub least : (w : ℕ) → IsEnough first lows highs w → old ≤ w → new ≤ w
+  pub ended : (u : ℕ) → u < length reported_at → slice_index reported_at u < old → slice_index stable_at u ≤ new
+  pub least : (w : ℕ) → IsEnough first reported_at stable_at w → old ≤ w → new ≤ w
 
 -- whether equal times may stand for different ones where it matters: two began first, or some begins as all has ended
 abbrev pub is_doubtful : List ℕ → ℕ → ℕ → Bool
-is_doubtful lows first time =
-    nat_lt 1 (count_by (λ x. x == first) lows) || (nat_lt first time && list_any (λ x. x == time) lows)
+is_doubtful reported_at first time =
+    nat_lt 1 (count_by (λ x. x == first) reported_at) || (nat_lt first time && list_any (λ x. x == time) reported_at)

@@ -1,4 +1,4 @@
--- Bounds of times, of nodes' values, and what agrees on all elements.
+-- Bounds of times, of candidates' values, and what agrees on all elements.
 use Rattle.std.proofs.Common.{ℕ, ◌≤◌, List, length, arith}
 use Rattle.std.proofs.lemmas.List.{length-map}
 use Rattle.std.proofs.lemmas.List.FromFn.{length-range_with_len}
@@ -8,11 +8,11 @@ unfoldable use Rattle.cut_ranks.specs.Ranks.{rank_at}
 use Rattle.cut_blocks.specs.Images.{never}
 use Rattle.cut_arrivals.specs.Times.{times_to}
 unfoldable use Rattle.cut_arrivals.specs.Times.{low_of, full_time, high_of}
-use Rattle.cut_arrivals.specs.Hearing.{Hearing, IsHearing, images_at, lows_at, highs_at}
-use Rattle.cut_nodes.specs.declared.node.Node.{Node}
+use Rattle.cut_arrivals.specs.Reception.{Reception, IsReception, images_at, lows_at, highs_at}
+use Rattle.cut_candidates.specs.declared.candidate.Candidate.{Candidate}
 use Rattle.cut_receivers.specs.declared.trial.Trial.{Trial}
-use Rattle.cut_receivers.specs.Heard.{hearing_of}
-use Rattle.cut_receivers.specs.inside.Times.{IsNodeOf}
+use Rattle.cut_receivers.specs.Received.{reception_of}
+use Rattle.cut_receivers.specs.inside.Times.{IsCandidateOf}
 
 -- ---- no time is after `never`
 
@@ -20,30 +20,30 @@ rank_within : (end r : ℕ) (xs : List ℕ) → rank_at end r xs ≤ end
 unfolding rank_at
 rank_within end r xs = grind (arith, count_by-le-length, length-range_with_len)
 
-pub image_within : (x : Hearing) (ring s : ℕ) → images_at x never ring s ≤ never
+pub image_within : (x : Reception) (ring s : ℕ) → images_at x never ring s ≤ never
 image_within x ring s = rank_within never 1 _
 
-pub low_within : (x : Hearing) (s : ℕ) → lows_at x never s ≤ never
+pub low_within : (x : Reception) (s : ℕ) → lows_at x never s ≤ never
 unfolding low_of
 low_within x s = rank_within never x.rule.l (times_to x.rule.k (images_at x never) s)
 
-pub high_within : (x : Hearing) (s : ℕ) → highs_at x never s ≤ never
+pub high_within : (x : Reception) (s : ℕ) → highs_at x never s ≤ never
 unfolding high_of
 high_within x s = rank_within never x.rule.h (times_to x.rule.k (full_time never x.layout x.rule (images_at x never)) s)
 
-pub full_within : (x : Hearing) (ring s : ℕ) → full_time never x.layout x.rule (images_at x never) ring s ≤ never
+pub full_within : (x : Reception) (ring s : ℕ) → full_time never x.layout x.rule (images_at x never) ring s ≤ never
 unfolding full_time
 full_within x ring s = grind (arith, image_within)
 
--- ---- a node has at most as many alerts, and rings that count, as there are rings
+-- ---- a candidate has at most as many alerts, and rings that count, as there are rings
 
-pub hears : (t : Trial) (j : ℕ) → IsHearing (hearing_of t j)
+pub hears : (t : Trial) (j : ℕ) → IsReception (reception_of t j)
 hears t j = record { layout = t.layout; rings = t.within; rule = record { low = t.rule.low; gap = t.rule.thresholds } }
 
-pub few_heard : (t : Trial) (d : Node) → IsNodeOf t d → length d.heard.items ≤ 32
+pub few_heard : (t : Trial) (d : Candidate) → IsCandidateOf t d → length d.heard.items ≤ 32
 few_heard t d is =
     grind (arith, few_filtered, length-map)
 
-pub few_causes : (t : Trial) (d : Node) → IsNodeOf t d → length d.causes.items ≤ 32
+pub few_causes : (t : Trial) (d : Candidate) → IsCandidateOf t d → length d.causes.items ≤ 32
 few_causes t d is =
     grind (arith, few_filtered, length-map)

@@ -27,9 +27,9 @@ copies_none t js drawn none = record {
 
 -- one copy more
 pub copies_more : (t : Trial) (js : List ℕ) (copies : ℕ) (old new : List (List (List ℕ))) → AreCopies t js copies old
-    → new ≡ old ++ map (of_copy t js copies) t.nodes.now.blocks.items → AreCopies t js (copies + 1) new
+    → new ≡ old ++ map (of_copy t js copies) t.candidates.now.blocks.items → AreCopies t js (copies + 1) new
 copies_more t js copies old new are is =
-    let blocks : List ℕ = t.nodes.now.blocks.items in
+    let blocks : List ℕ = t.candidates.now.blocks.items in
     let n : ℕ = length blocks in
     let others : List (List (List ℕ)) = map (of_copy t js copies) blocks in
     let turned : (copies + 1) * n ≡ copies * n + n = grind arith in
@@ -80,14 +80,14 @@ least_same d copies block rows = refl
 -- the least over the copies
 pub least_are : CopiesAreApart → ImagesAreBelowNever → (t : Trial) (js : List ℕ) (n m : ℕ)
     (kept least : List (List (List ℕ))) → length js ≡ 4 → AreCopies t js t.copies kept
-    → n ≡ length t.nodes.now.blocks.items → m ≡ t.copies → length least ≡ n
+    → n ≡ length t.candidates.now.blocks.items → m ≡ t.copies → length least ≡ n
     → ((b : ℕ) (f : ℕ → ℕ → ℕ → ℕ) (rows : List ℕ) → b < n → length rows ≡ 4
     → ((c : ℕ) → c < m → slice_index_or kept (c * n + b) [] ≡ eight (f c) rows)
     → slice_index_or least b [] ≡ eight (least_over f m) rows)
     → AreLeast t js least
 least_are apart below t js n m kept least four are n_is m_is many each =
     let d : Source = t.blocks.now in
-    let blocks : List ℕ = t.nodes.now.blocks.items in
+    let blocks : List ℕ = t.candidates.now.blocks.items in
     let rows : List ℕ = map (λ j. row_of 0 j) js in
     let all : ℕ → List (List ℕ) = λ block. eight (least_image d t.copies block) rows in
     ext_get_or [] least (map all blocks) (many ∙ n_is ∙ sym (length-map blocks all)) (λ b low.
@@ -102,19 +102,20 @@ least_are apart below t js n m kept least four are n_is m_is many each =
 
 -- a key of a copy in lane i
 pub copy_at : ImagesAreBelowNever → (t : Trial) (js : List ℕ) (kept : List (List (List ℕ))) (c b q i : ℕ)
-    → length js ≡ 4 → AreCopies t js t.copies kept → c < t.copies → b < length t.nodes.now.blocks.items → q < 8 → i < 4
-    → image_for kept (c * length t.nodes.now.blocks.items + b) q i
-    ≡ image_at t.blocks.now (place_in (row_of c (slice_index js i) + slice_index t.nodes.now.blocks.items b) q)
+    → length js ≡ 4 → AreCopies t js t.copies kept → c < t.copies → b < length t.candidates.now.blocks.items → q < 8
+    → i < 4
+    → image_for kept (c * length t.candidates.now.blocks.items + b) q i
+    ≡ image_at t.blocks.now (place_in (row_of c (slice_index js i) + slice_index t.candidates.now.blocks.items b) q)
 copy_at below t js kept c b q i four are few inside eighth low =
-    let block : ℕ = slice_index t.nodes.now.blocks.items b in
+    let block : ℕ = slice_index t.candidates.now.blocks.items b in
     ap (λ (v : List (List ℕ)). slice_index (slice_index_or v q []) i) (are.each c b few inside)
     ∙ image_drawn (λ block q row. least_image t.blocks.now 1 block q row) (λ j. row_of c j) js (block ∷ []) 0 q i four
     (omega arith) eighth low
     ∙ one_image below t.blocks.now block q (row_of c (slice_index js i))
 
--- and of all that are kept, whose blocks are the nodes'
+-- and of all that are kept, whose blocks are the candidates'
 pub copies_kept : ImagesAreBelowNever → (t : Trial) (js : List ℕ) (kept : List (List (List ℕ))) (blocks : List ℕ)
-    (i : ℕ) → length js ≡ 4 → AreCopies t js t.copies kept → blocks ≡ t.nodes.now.blocks.items → i < 4
+    (i : ℕ) → length js ≡ 4 → AreCopies t js t.copies kept → blocks ≡ t.candidates.now.blocks.items → i < 4
     → (c b q : ℕ) → c < t.copies → b < length blocks → q < 8
     → image_for kept (c * length blocks + b) q i
     ≡ image_at t.blocks.now (place_in (row_of c (slice_index js i) + slice_index blocks b) q)

@@ -1,4 +1,4 @@
--- The times from which on the rings of a node count, of which its high is a rank.
+-- The times from which on the rings of a candidate count, of which its high is a rank.
 use Rattle.std.proofs.Common.{◌≡◌, ◌∙◌, inl, inr, ℕ, ◌<◌, ◌≤◌, Bool, List, map, Option, Some, None, if◌then◌else◌, ap}
 use Rattle.std.proofs.Common.{sym, subst, arith}
 use Rattle.std.specs.List.{All, range_with_len}
@@ -16,14 +16,14 @@ use Rattle.cut_ranks.specs.Ranks.{IsRank}
 use Rattle.cut_arrivals.specs.Times.{full_time}
 use Rattle.cut_arrivals.specs.Laws.{ImagesAreLeast, OthersNeverCome, GainedCountByLows, HighIsRankOfFullTimes}
 use Rattle.cut_arrivals.specs.Laws.{UngainedCountByImage}
-use Rattle.cut_arrivals.specs.Hearing.{images_at, highs_at}
-use Rattle.cut_nodes.specs.declared.node.Node.{Node}
-use Rattle.cut_nodes.specs.Nodes.{cause_in, cause_of, subjects_of}
+use Rattle.cut_arrivals.specs.Reception.{images_at, highs_at}
+use Rattle.cut_candidates.specs.declared.candidate.Candidate.{Candidate}
+use Rattle.cut_candidates.specs.Candidates.{cause_in, cause_of, subjects_of}
 use Rattle.cut_rings.specs.Edges.{rings_to, edge_to}
-use Rattle.cut_nodes.specs.Slots.{key_of}
+use Rattle.cut_candidates.specs.KeyPlaces.{key_of}
 use Rattle.cut_receivers.specs.declared.trial.Trial.{Trial}
-use Rattle.cut_receivers.specs.Heard.{hearing_of}
-use Rattle.cut_receivers.specs.inside.Times.{IsNodeOf, image_if, time_if, time_of_cause}
+use Rattle.cut_receivers.specs.Received.{reception_of}
+use Rattle.cut_receivers.specs.inside.Times.{IsCandidateOf, image_if, time_if, time_of_cause}
 use Rattle.cut_receivers.proofs.Bounds.{full_within, hears}
 
 -- what is known of images and full times
@@ -35,31 +35,31 @@ pub record AreKnown : Type 0 where
   pub high : HighIsRankOfFullTimes
 
 -- the values that are gathered in the lane of receiver j
-abbrev pub counted : Trial → Node → ℕ → List ℕ
+abbrev pub counted : Trial → Candidate → ℕ → List ℕ
 counted t d j =
-    map (λ c. time_of_cause (hearing_of t j) d.subject (cause_in t.nodes.now.blocks.items
-    (subjects_of t.nodes.now.nodes.items) c))
+    map (λ c. time_of_cause (reception_of t j) d.subject (cause_in t.candidates.now.blocks.items
+    (subjects_of t.candidates.now.candidates.items) c))
     d.causes.items
 
-abbrev full_rings : Trial → Node → List ℕ
+abbrev full_rings : Trial → Candidate → List ℕ
 full_rings t d = rings_to t.rule.k (is_full t.rings.now (rule_in t.rule) (set_of t.edges.now)) d.subject
 
 -- a ring's image by its key, where it has one
 image_is : AreKnown → (t : Trial) (j ring s : ℕ)
-    → image_if (hearing_of t j) (if set_of t.edges.now ring s then Some (key_of t.rule.k (edge_to s ring)) else None)
-    ≡ images_at (hearing_of t j) never ring s
+    → image_if (reception_of t j) (if set_of t.edges.now ring s then Some (key_of t.rule.k (edge_to s ring)) else None)
+    ≡ images_at (reception_of t j) never ring s
 image_is known t j ring s = elim (cases_Bool (set_of t.edges.now ring s)) [
-  | inl is ↦ ap (λ b. image_if (hearing_of t j) (if b then Some (key_of t.rule.k (edge_to s ring)) else None)) is
-      ∙ sym (known.least (hearing_of t j) ring s is)
-  | inr not ↦ ap (λ b. image_if (hearing_of t j) (if b then Some (key_of t.rule.k (edge_to s ring)) else None)) not
-      ∙ sym (known.others (hearing_of t j) never ring s (hears t j) t.some (omega arith) not)
+  | inl is ↦ ap (λ b. image_if (reception_of t j) (if b then Some (key_of t.rule.k (edge_to s ring)) else None)) is
+      ∙ sym (known.least (reception_of t j) ring s is)
+  | inr not ↦ ap (λ b. image_if (reception_of t j) (if b then Some (key_of t.rule.k (edge_to s ring)) else None)) not
+      ∙ sym (known.others (reception_of t j) never ring s (hears t j) t.some (omega arith) not)
 ]
 
 time_is : AreKnown → (t : Trial) (j ring s : ℕ) → ring < t.rule.k → s < t.rings.now.nodes
-    → time_of_cause (hearing_of t j) s (cause_of t.rings.now (rule_in t.rule) (set_of t.edges.now) s ring)
-    ≡ full_time never t.rings.now (rule_in t.rule) (images_at (hearing_of t j) never) ring s
+    → time_of_cause (reception_of t j) s (cause_of t.rings.now (rule_in t.rule) (set_of t.edges.now) s ring)
+    ≡ full_time never t.rings.now (rule_in t.rule) (images_at (reception_of t j) never) ring s
 time_is known t j ring s in_rule process =
-    let x = hearing_of t j in
+    let x = reception_of t j in
     let image : ℕ = images_at x never ring s in
     let o : ℕ = observer_of t.rings.now ring s in
     let gained : Bool = is_gained t.rings.now (rule_in t.rule) (set_of t.edges.now) ring s in
@@ -70,12 +70,12 @@ time_is known t j ring s in_rule process =
           ∙ sym (known.ungained x never ring s (hears t j) t.some (omega arith) in_rule process not)
     ]
 
-pub counted_are : AreKnown → (t : Trial) (d : Node) (j : ℕ) → IsNodeOf t d
+pub counted_are : AreKnown → (t : Trial) (d : Candidate) (j : ℕ) → IsCandidateOf t d
     → counted t d j
-    ≡ map (λ ring. full_time never t.rings.now (rule_in t.rule) (images_at (hearing_of t j) never) ring d.subject)
+    ≡ map (λ ring. full_time never t.rings.now (rule_in t.rule) (images_at (reception_of t j) never) ring d.subject)
     (full_rings t d)
 counted_are known t d j is =
-    let x = hearing_of t j in
+    let x = reception_of t j in
     let s : ℕ = d.subject in
     let k : ℕ = t.rule.k in
     let rule = rule_in t.rule in
@@ -83,8 +83,9 @@ counted_are known t d j is =
     let time : Option (ℕ × ℕ) × Option ℕ → ℕ = λ cause. time_of_cause x s cause in
     let full : ℕ → ℕ = λ ring. full_time never t.rings.now rule (images_at x never) ring s in
     let of : ℕ → ℕ = λ ring. time (cause_of t.rings.now rule (set_of t.edges.now) s ring) in
-    sym (map-map (λ c. cause_in t.nodes.now.blocks.items (subjects_of t.nodes.now.nodes.items) c) time d.causes.items)
-    ∙ ap (λ (cs : List (Option (ℕ × ℕ) × Option ℕ)). map time cs) is.node.causes
+    sym (map-map (λ c. cause_in t.candidates.now.blocks.items (subjects_of t.candidates.now.candidates.items) c) time
+    d.causes.items)
+    ∙ ap (λ (cs : List (Option (ℕ × ℕ) × Option ℕ)). map time cs) is.candidate.causes
     ∙ map-map (λ ring. cause_of t.rings.now rule (set_of t.edges.now) s ring) time rings
     ∙ maps_agree of full rings
     (All-filter (λ ring. is_full t.rings.now rule (set_of t.edges.now) ring s) (λ ring. of ring ≡ full ring)
@@ -92,17 +93,19 @@ counted_are known t d j is =
     (All-range_with_len (λ ring. of ring ≡ full ring) 0 k (λ ring _ low. time_is known t j ring s (omega
     (arith, low)) is.process)))
 
-pub counted_within : AreKnown → (t : Trial) (d : Node) (j : ℕ) → IsNodeOf t d → All (λ v. v ≤ never) (counted t d j)
+pub counted_within : AreKnown → (t : Trial) (d : Candidate) (j : ℕ) → IsCandidateOf t d
+    → All (λ v. v ≤ never) (counted t d j)
 counted_within known t d j is =
-    let x = hearing_of t j in
+    let x = reception_of t j in
     let full : ℕ → ℕ = λ ring. full_time never t.rings.now (rule_in t.rule) (images_at x never) ring d.subject in
     subst (All (λ v. v ≤ never)) (sym (counted_are known t d j is))
     (All-map (λ v. v ≤ never) full (full_rings t d) (λ k e low. full_within x _ d.subject))
 
-pub counted_high : AreKnown → (t : Trial) (d : Node) (j v : ℕ) → IsNodeOf t d → IsRank never t.rule.h (counted t d j) v
-    → v ≡ highs_at (hearing_of t j) never d.subject
+pub counted_high : AreKnown → (t : Trial) (d : Candidate) (j v : ℕ) → IsCandidateOf t d
+    → IsRank never t.rule.h (counted t d j) v
+    → v ≡ highs_at (reception_of t j) never d.subject
 counted_high known t d j v is rank =
-    known.high (hearing_of t j) never d.subject (counted t d j) v (hears t j) t.some (omega arith) is.process
+    known.high (reception_of t j) never d.subject (counted t d j) v (hears t j) t.some (omega arith) is.process
     (record {
       rings = full_rings t d;
       moved = IsPermutation-refl (full_rings t d);

@@ -1,4 +1,4 @@
--- Counts of deliveries by the slots of their edges.
+-- Counts of deliveries by the key places of their edges.
 use Rattle.std.proofs.Common.{◌≡◌, ◌∙◌, ℕ, ◌+◌, ◌*◌, ◌^◌, ◌<◌, ◌≤◌, ◌==◌, Bool, nat_lt, nat_le, cond}
 use Rattle.std.proofs.Common.{List, [], ◌∷◌, ◌++◌, length, slice_index_or, refl, ap, sym}
 use Rattle.std.proofs.Common.{zero-add, arith}
@@ -13,13 +13,13 @@ use Rattle.cut_rings.specs.declared.edge.Edge.{Edge}
 use Rattle.cut_draws.specs.declared.delivery.Delivery.{Delivery}
 use Rattle.cut_draws.specs.DeliveryOrder.{copies_of}
 use Rattle.cut_blocks.specs.Images.{image_at, place_in, row_of, DeliveriesStandInBlocks}
-use Rattle.cut_arrivals.specs.Hearing.{Hearing, deliveries_of, image_of}
-use Rattle.cut_nodes.specs.declared.slots.Slot.{Slot}
-use Rattle.cut_nodes.specs.Slots.{AreSlots, key_in, key_of}
+use Rattle.cut_arrivals.specs.Reception.{Reception, deliveries_of, image_of}
+use Rattle.cut_candidates.specs.declared.key_places.KeyPlace.{KeyPlace}
+use Rattle.cut_candidates.specs.KeyPlaces.{AreKeyPlaces, key_in, key_of}
 use Rattle.cut_receivers.specs.inside.Places.{image_in, AreImagesOf}
 
 -- of the first copies of all edges how many have an image below a bound
-abbrev pub count_below : Hearing → ℕ → ℕ → ℕ
+abbrev pub count_below : Reception → ℕ → ℕ → ℕ
 count_below x copies bound =
     count_by (λ y. nat_lt (image_of x y) bound) (flat_map (λ c. copies_of x.edges c) (range_with_len 0 copies))
 
@@ -34,24 +34,26 @@ count_agree p q xs same =
     sym (count_by-map (λ b. b) p xs) ∙ ap (λ (bs : List Bool). count_by (λ b. b) bs) (maps_agree p q xs same)
     ∙ count_by-map (λ b. b) q xs
 
--- in lane i of the images of a copy, as many slots are below a bound as deliveries of that copy
+-- in lane i of the images of a copy, as many key places are below a bound as deliveries of that copy
 pub copy_counted : DeliveriesStandInBlocks
-    → (x : Hearing) (c i bound : ℕ) (blocks : List ℕ) (slots : List Slot) (images : List (List (List ℕ)))
-    → AreImagesOf x c i blocks images → AreSlots x.rule.k blocks x.edges slots
-    → count_by (λ slot. nat_lt (image_in images i slot) bound) slots ≡ count_by (λ y. nat_lt (image_of x y) bound)
+    → (x : Reception) (c i bound : ℕ) (blocks : List ℕ) (key_places : List KeyPlace) (images : List (List (List ℕ)))
+    → AreImagesOf x c i blocks images → AreKeyPlaces x.rule.k blocks x.edges key_places
+    → count_by (λ key_place. nat_lt (image_in images i key_place) bound) key_places
+    ≡ count_by (λ y. nat_lt (image_of x y) bound)
     (copies_of x.edges c)
-copy_counted stand x c i bound blocks slots images drawn are =
+copy_counted stand x c i bound blocks key_places images drawn are =
     let k : ℕ = x.rule.k in
     let image : ℕ × ℕ → ℕ = λ key. image_at x.source (place_in (row_of c x.receiver + key.0) key.1) in
     let test : ℕ × ℕ → Bool = λ key. nat_lt (image key) bound in
     let of : Edge → Delivery = λ e. record { edge = e; copy = c } in
-    let at : (slot : Slot) → slot.block < length blocks → slot.key < 8
-    → image_in images i slot ≡ image (key_in blocks slot) =
-    λ slot inside few. drawn slot.block slot.key inside few in
-    count_agree (λ slot. nat_lt (image_in images i slot) bound) (λ slot. test (key_in blocks slot)) slots
-    (λ n d inside. ap (λ (m : ℕ). nat_lt m bound) (at (slice_index_or slots n d) (are.within n d inside)
+    let at : (key_place : KeyPlace) → key_place.block < length blocks → key_place.key < 8
+    → image_in images i key_place ≡ image (key_in blocks key_place) =
+    λ key_place inside few. drawn key_place.block key_place.key inside few in
+    count_agree (λ key_place. nat_lt (image_in images i key_place) bound) (λ key_place. test (key_in blocks key_place))
+    key_places
+    (λ n d inside. ap (λ (m : ℕ). nat_lt m bound) (at (slice_index_or key_places n d) (are.within n d inside)
     (are.eight n d inside)))
-    ∙ sym (count_by-map test (λ slot. key_in blocks slot) slots)
+    ∙ sym (count_by-map test (λ key_place. key_in blocks key_place) key_places)
     ∙ ap (λ (ks : List (ℕ × ℕ)). count_by test ks) are.keys
     ∙ count_by-map test (λ e. key_of k e) x.edges
     ∙ count_agree (λ e. test (key_of k e)) (λ e. nat_lt (image_of x (of e)) bound) x.edges
@@ -60,7 +62,7 @@ copy_counted stand x c i bound blocks slots images drawn are =
     ∙ sym (count_by-map (λ y. nat_lt (image_of x y) bound) of x.edges)
 
 -- one copy more
-pub below_more : (x : Hearing) (c bound : ℕ)
+pub below_more : (x : Reception) (c bound : ℕ)
     → count_below x (c + 1) bound ≡ count_below x c bound + count_by (λ y. nat_lt (image_of x y) bound)
     (copies_of x.edges c)
 below_more x c bound =
@@ -88,28 +90,29 @@ count_at f time (y ∷ ys) =
     search (arith, sum_by-cons, one_at, count_at f time ys)
 
 pub copy_more : DeliveriesStandInBlocks
-    → (x : Hearing) (c i bound : ℕ) (blocks : List ℕ) (slots : List Slot)
+    → (x : Reception) (c i bound : ℕ) (blocks : List ℕ) (key_places : List KeyPlace)
     (images : List (List (List ℕ))) (old new : ℕ)
-    → AreImagesOf x c i blocks images → AreSlots x.rule.k blocks x.edges slots
-    → new ≡ old + count_by (λ slot. nat_lt (image_in images i slot) bound) slots → old ≡ count_below x c bound
+    → AreImagesOf x c i blocks images → AreKeyPlaces x.rule.k blocks x.edges key_places
+    → new ≡ old + count_by (λ key_place. nat_lt (image_in images i key_place) bound) key_places
+    → old ≡ count_below x c bound
     → new ≡ count_below x (c + 1) bound
-copy_more stand x c i bound blocks slots images old new drawn are more is =
+copy_more stand x c i bound blocks key_places images old new drawn are more is =
     omega (
       arith,
       more,
       is,
-      copy_counted stand x c i bound blocks slots images drawn are,
+      copy_counted stand x c i bound blocks key_places images drawn are,
       below_more x c bound,
     )
 
-pub few_more : (c k : ℕ) (blocks : List ℕ) (edges : List Edge) (slots : List Slot) (test : Slot
-    → Bool) (old new : ℕ) → AreSlots k blocks edges slots
-    → length edges ≤ 2 ^ 16 → new ≡ old + count_by test slots → old ≤ c * 2 ^ 16 → new ≤ (c + 1) * 2 ^ 16
-few_more c k blocks edges slots test old new are few more is =
+pub few_more : (c k : ℕ) (blocks : List ℕ) (edges : List Edge) (key_places : List KeyPlace) (test : KeyPlace
+    → Bool) (old new : ℕ) → AreKeyPlaces k blocks edges key_places
+    → length edges ≤ 2 ^ 16 → new ≡ old + count_by test key_places → old ≤ c * 2 ^ 16 → new ≤ (c + 1) * 2 ^ 16
+few_more c k blocks edges key_places test old new are few more is =
     grind (arith, length-map, count_by-le-length)
 
 -- of two counts the later one is the next number exactly where one delivery has the image of the time
-pub next_count : (x : Hearing) (time before until : ℕ) → before ≡ count_below x x.copies time
+pub next_count : (x : Reception) (time before until : ℕ) → before ≡ count_below x x.copies time
     → until ≡ count_below x x.copies (time + 1)
     → (until == before + 1) ≡ (count_by (λ y. image_of x y == time) (deliveries_of x) == 1)
 next_count x time before until before_is until_is =

@@ -7,7 +7,7 @@ use Rattle.std.proofs.lemmas.List.{get_or_append_left, get_or-append_right}
 use Rattle.cut_draws.specs.Source.{Source}
 unfoldable use Rattle.cut_blocks.specs.Images.{least_image}
 use Rattle.cut_blocks.specs.Images.{eight, image_at, place_in, row_of, ImagesAreBelowNever}
-use Rattle.cut_arrivals.specs.Hearing.{Hearing}
+use Rattle.cut_arrivals.specs.Reception.{Reception}
 use Rattle.cut_receivers.specs.inside.Places.{image_for, AreImagesOf}
 
 -- key q of the b-th block in lane i
@@ -44,7 +44,7 @@ dropped_at known blocks b after =
     get_or-drop known blocks (b - known) 0 ∙ ap (λ (n : ℕ). slice_index blocks n) (omega (arith, after))
 
 -- the images of a copy: those of the first blocks that are known, and those of the others that are drawn
-pub drawn_after : ImagesAreBelowNever → (x : Hearing) (c i from known : ℕ) (js blocks : List ℕ)
+pub drawn_after : ImagesAreBelowNever → (x : Reception) (c i from known : ℕ) (js blocks : List ℕ)
     (kept images : List (List (List ℕ)))
     → length js ≡ 4 → i < 4 → x.receiver ≡ slice_index js i → from + known ≤ length kept → known ≤ length blocks
     → images ≡ take known (drop from kept)

@@ -3,7 +3,7 @@ use Rattle.std.proofs.Common.{◌≡◌, ◌∙◌, ℕ, zero, suc, ◌<◌, Boo
 use Rattle.std.proofs.Common.{slice_index, slice_index_or, refl, ap, sym, arith}
 use Rattle.std.specs.List.{All, AllPairs}
 use Rattle.std.proofs.lemmas.List.Elements.{All-head, All-tail, All-cons, All-nil, All-filter}
-use Rattle.cut_receivers.specs.Findings.{flagged}
+use Rattle.cut_receivers.specs.LaneVerdicts.{flagged}
 
 -- where flag and test agree, the same are kept
 pub flagged_same : (p : ℕ → Bool) (ss : List ℕ) (fs : List Bool) → length fs ≡ length ss

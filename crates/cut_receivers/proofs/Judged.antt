@@ -15,14 +15,14 @@ use Rattle.cut_blocks.specs.Images.{never}
 use Rattle.cut_lanes.specs.Lanes.{lane}
 use Rattle.cut_ranks.specs.Closing.{is_doubtful}
 use Rattle.cut_arrivals.specs.Times.{members_by}
-use Rattle.cut_arrivals.specs.Nodes.{AreNodes, IsClosed}
-use Rattle.cut_arrivals.specs.Laws.{ClosesAsProposed, NodesShowOther}
-use Rattle.cut_arrivals.specs.Hearing.{Hearing, lows_at, highs_at}
+use Rattle.cut_arrivals.specs.Candidates.{AreCandidates, IsClosed}
+use Rattle.cut_arrivals.specs.Laws.{ClosesAsProposed, CandidatesShowOther}
+use Rattle.cut_arrivals.specs.Reception.{Reception, lows_at, highs_at}
 use Rattle.cut_receivers.specs.declared.receivers.Receivers as declared
-use Rattle.cut_receivers.specs.declared.finding.Finding.{Finding}
-use Rattle.cut_receivers.specs.Heard.{HasHeard}
-use Rattle.cut_receivers.specs.Findings.{flagged, has_bit, members_at, Finds}
-use Rattle.cut_receivers.specs.inside.Findings.{is_other}
+use Rattle.cut_receivers.specs.declared.lane_verdict.LaneVerdict.{LaneVerdict}
+use Rattle.cut_receivers.specs.Received.{HasReceived}
+use Rattle.cut_receivers.specs.LaneVerdicts.{flagged, has_bit, members_at, IsVerdictOn}
+use Rattle.cut_receivers.specs.inside.LaneVerdicts.{is_other}
 use Rattle.cut_receivers.proofs.Flags.{flagged_same, flags_same}
 
 -- ---- bits
@@ -31,7 +31,7 @@ pub bit_is : (b : Bool) (v : ℕ) → v ≡ cond b 1 0 → (v == 1) ≡ b
 bit_is true v is = ap (λ (w : ℕ). w == 1) is
 bit_is false v is = ap (λ (w : ℕ). w == 1) is
 
--- ---- members among the nodes
+-- ---- members among the candidates
 
 filter_both : (p q : ℕ → Bool) (xs : List ℕ) → filter p (filter q xs) ≡ filter (λ x. q x && p x) xs
 filter_both p q [] = refl
@@ -46,15 +46,15 @@ absorbed true b up = refl
 absorbed false true up = up refl
 absorbed false false up = refl
 
-module _ (x : Hearing) (subjects : List ℕ) (i : ℕ) (f : declared.Receivers) (h : HasHeard x subjects i f) where
+module _ (x : Reception) (subjects : List ℕ) (i : ℕ) (f : declared.Receivers) (h : HasReceived x subjects i f) where
   abbrev n : ℕ
   n = x.layout.nodes
 
   abbrev first : ℕ
-  first = slice_index f.closing.first i
+  first = slice_index f.proposal_time.first i
 
   abbrev time : ℕ
-  time = slice_index f.closing.time i
+  time = slice_index f.proposal_time.time i
 
   abbrev is_heard : ℕ → Bool
   is_heard s = nat_lt (lows_at x never s) never
@@ -62,9 +62,9 @@ module _ (x : Hearing) (subjects : List ℕ) (i : ℕ) (f : declared.Receivers) 
   abbrev pub has_ended : ℕ → Bool
   has_ended s = nat_le (highs_at x never s) time
 
-  pub nodes_are : AreNodes n never (lows_at x never) (highs_at x never) subjects (lane i f.lows.items)
-      (lane i f.highs.items)
-  nodes_are = record {
+  pub candidates_are : AreCandidates n never (lows_at x never) (highs_at x never) subjects (lane i f.reported_at.items)
+      (lane i f.stable_at.items)
+  candidates_are = record {
     processes = subst (All (λ s. s < n)) (sym h.subjects_are)
         (All-filter is_heard (λ s. s < n) (range_with_len 0 n) (All-range_with_len (λ s. s < n) 0 n
         (λ s _ low. omega (arith, low))));
@@ -75,21 +75,22 @@ module _ (x : Hearing) (subjects : List ℕ) (i : ℕ) (f : declared.Receivers) 
               (arith, process);
           passes = lt-ltb (lows_at x never s) never early;
         }));
-    lows_are = h.lows;
-    highs_are = h.highs;
+    reported_at_are = h.reported_at;
+    stable_at_are = h.stable_at;
   }
 
-  pub closed : is_doubtful (lane i f.lows.items) first time ≡ false
-      → IsClosed n never (lows_at x never) (highs_at x never) (lane i f.lows.items) (lane i f.highs.items) first time
+  pub closed : is_doubtful (lane i f.reported_at.items) first time ≡ false
+      → IsClosed n never (lows_at x never) (highs_at x never) (lane i f.reported_at.items) (lane i f.stable_at.items)
+      first time
   closed certain = record {
-    nodes = (subjects, nodes_are);
+    candidates = (subjects, candidates_are);
     least = h.least;
-    closing = h.closing;
+    proposal_time = h.proposal_time;
     certain = certain;
   }
 
-  -- who has ended by a time that comes is a node
-  ended_heard : NodesShowOther → time < never → (s : ℕ) → s < n → has_ended s ≡ true → is_heard s ≡ true
+  -- who has ended by a time that comes is a candidate
+  ended_heard : CandidatesShowOther → time < never → (s : ℕ) → s < n → has_ended s ≡ true → is_heard s ≡ true
   ended_heard law comes s process ended =
       let is : ℕ → Bool = λ p. not (not (p == s)) in
       let member : Contains (members_by n (highs_at x never) time) s =
@@ -97,15 +98,15 @@ module _ (x : Hearing) (subjects : List ℕ) (i : ℕ) (f : declared.Receivers) 
       let found : list_any is (members_by n (highs_at x never) time) ≡ true =
       list_any_at is (members_by n (highs_at x never) time) member.0 s member.1 (ap is member.2
       ∙ ap (λ b. not (not b)) (eq-eqb s s refl)) in
-      let known = law x never time subjects (lane i f.lows.items) (lane i f.highs.items) (λ p. not
-      (p == s)) h.hearing (omega arith) nodes_are comes in
+      let known = law x never time subjects (lane i f.reported_at.items) (lane i f.stable_at.items) (λ p. not
+      (p == s)) h.reception (omega arith) candidates_are comes in
       let at = Any-from_list_any (λ p. is p && nat_le (highs_at x never p) time) subjects (sym known ∙ found) in
       let same : at.1 ≡ s = eqb-true at.1 s (not_not (at.1 == s) (and_parts (is at.1) (nat_le
       (highs_at x never at.1) time) at.4).0) in
       subst (λ p. is_heard p ≡ true) same
       (Contains-filter_of is_heard 0 n at.1 (subst (λ ns. Contains ns at.1) h.subjects_are (at.0, at.2, at.3))).passes
 
-  pub members_filtered : NodesShowOther → time < never
+  pub members_filtered : CandidatesShowOther → time < never
       → members_by n (highs_at x never) time ≡ filter has_ended subjects
   members_filtered law comes =
       sym (ap (λ (ns : List ℕ). filter has_ended ns) h.subjects_are
@@ -114,10 +115,11 @@ module _ (x : Hearing) (subjects : List ℕ) (i : ℕ) (f : declared.Receivers) 
       (record { same = λ s _ low. absorbed (is_heard s) (has_ended s) (ended_heard law comes s (omega (arith, low))) }))
 
   -- the members that are proposed, where nothing is doubted
-  pub members_are : ClosesAsProposed → NodesShowOther → is_doubtful (lane i f.lows.items) first time ≡ false
+  pub members_are : ClosesAsProposed → CandidatesShowOther → is_doubtful (lane i f.reported_at.items) first time ≡ false
       → members_at x ≡ (if nat_lt time never then Some (filter has_ended subjects) else None)
   members_are closes law certain =
-      closes x never (lane i f.lows.items) (lane i f.highs.items) first time h.hearing (omega arith) (closed certain)
+      closes x never (lane i f.reported_at.items) (lane i f.stable_at.items) first time h.reception (omega arith)
+      (closed certain)
       ∙ elim (cases_Bool (nat_lt time never)) [
         | inl comes ↦ rw comes (ap (λ (ms : List ℕ). Some ms) (members_filtered law (ltb-true time never comes)))
         | inr not ↦ rw not refl
@@ -130,22 +132,22 @@ module _ (x : Hearing) (subjects : List ℕ) (i : ℕ) (f : declared.Receivers) 
       (range-rises 0 n)))
 
   -- nothing is doubted where the bit is not set
-  pub certain_of : has_bit f.closing.doubt i ≡ false → is_doubtful (lane i f.lows.items) first time ≡ false
-  certain_of clear = sym (bit_is (is_doubtful (lane i f.lows.items) first time)
-      (f.closing.doubt / 2 ^ i % 2) h.doubt) ∙ clear
+  pub certain_of : has_bit f.proposal_time.doubt i ≡ false → is_doubtful (lane i f.reported_at.items) first time ≡ false
+  certain_of clear = sym (bit_is (is_doubtful (lane i f.reported_at.items) first time)
+      (f.proposal_time.doubt / 2 ^ i % 2) h.doubt) ∙ clear
 
-  -- ---- flags of nodes
+  -- ---- flags of candidates
 
   pub high_at : (u : ℕ) → u < length subjects
-      → slice_index (lane i f.highs.items) u ≡ highs_at x never (slice_index subjects u)
-  high_at u low = ap (λ (xs : List ℕ). slice_index xs u) h.highs
+      → slice_index (lane i f.stable_at.items) u ≡ highs_at x never (slice_index subjects u)
+  high_at u low = ap (λ (xs : List ℕ). slice_index xs u) h.stable_at
       ∙ get_or-map (λ s. highs_at x never s) subjects u 0 0 low
 
   le_is_not_lt : (a b : ℕ) → nat_le a b ≡ not (nat_lt b a)
   le_is_not_lt a b = grind (arith, nat_tests)
 
   ended_at : (u : ℕ) → u < length subjects
-      → has_ended (slice_index subjects u) ≡ not (nat_lt time (slice_index (lane i f.highs.items) u))
+      → has_ended (slice_index subjects u) ≡ not (nat_lt time (slice_index (lane i f.stable_at.items) u))
   ended_at u low = le_is_not_lt _ time ∙ ap (λ (a : ℕ). not (nat_lt time a)) (sym (high_at u low))
 
   agrees : (flag late : Bool) → cond flag late (not late) ≡ false → not late ≡ flag
@@ -158,32 +160,33 @@ module _ (x : Hearing) (subjects : List ℕ) (i : ℕ) (f : declared.Receivers) 
   differs false late is same = both_ways (not late) same is
 
   pub wanted_members : (flags : List Bool) (m : ℕ) → length flags ≡ length subjects → m ≡ length subjects
-      → is_other time (lane i f.highs.items) flags m ≡ false → filter has_ended subjects ≡ flagged subjects flags
+      → is_other time (lane i f.stable_at.items) flags m ≡ false → filter has_ended subjects ≡ flagged subjects flags
   wanted_members flags m long all none =
       flagged_same has_ended subjects flags long (λ u low.
       ended_at u low
-      ∙ agrees (slice_index_or flags u false) (nat_lt time (slice_index (lane i f.highs.items) u))
-      (none_passing (λ u. cond (slice_index_or flags u false) (nat_lt time (slice_index (lane i f.highs.items) u))
-      (not (nat_lt time (slice_index (lane i f.highs.items) u))))
+      ∙ agrees (slice_index_or flags u false) (nat_lt time (slice_index (lane i f.stable_at.items) u))
+      (none_passing (λ u. cond (slice_index_or flags u false) (nat_lt time (slice_index (lane i f.stable_at.items) u))
+      (not (nat_lt time (slice_index (lane i f.stable_at.items) u))))
       0 m u none (omega arith) (omega (arith, low, all))))
 
   pub other_members : (flags : List Bool) (m : ℕ) → length flags ≡ length subjects → m ≡ length subjects
-      → is_other time (lane i f.highs.items) flags m ≡ true → filter has_ended subjects ≢ flagged subjects flags
+      → is_other time (lane i f.stable_at.items) flags m ≡ true → filter has_ended subjects ≢ flagged subjects flags
   other_members flags m long all some same =
       let at = passing (λ u. cond (slice_index_or flags u false) (nat_lt time (slice_index
-      (lane i f.highs.items) u)) (not (nat_lt time (slice_index (lane i f.highs.items) u)))) 0 m some in
+      (lane i f.stable_at.items) u)) (not (nat_lt time (slice_index (lane i f.stable_at.items) u)))) 0 m some in
       let low : at.0 < length subjects = omega (arith, at.1.below, all) in
-      differs (slice_index_or flags at.0 false) (nat_lt time (slice_index (lane i f.highs.items) at.0)) at.1.passes
+      differs (slice_index_or flags at.0 false) (nat_lt time (slice_index (lane i f.stable_at.items) at.0)) at.1.passes
       (sym (ended_at at.0 low) ∙ flags_same has_ended subjects flags long subjects_rise same at.0 low)
 
--- ---- findings
+-- ---- lane verdicts
 
 pub found : (doubted comes other : Bool) (proposed : Option (List ℕ)) (ended wanted : List ℕ)
     → (doubted ≡ false → proposed ≡ (if comes then Some ended else None))
     → (other ≡ false → ended ≡ wanted) → (other ≡ true → ended ≢ wanted)
-    → Finds wanted proposed
-    (if doubted then Finding.Doubtful else if not comes then Finding.Silent else if other then Finding.Other else
-    Finding.Wanted)
+    → IsVerdictOn wanted proposed
+    (if doubted then LaneVerdict.Doubtful else if not comes then LaneVerdict.Silent else if other then
+    LaneVerdict.Other else
+    LaneVerdict.Wanted)
 found true comes other proposed ended wanted is same differ = tt
 found false false other proposed ended wanted is same differ = is refl
 found false true true proposed ended wanted is same differ = (ended, is refl, differ refl)

@@ -7,51 +7,52 @@ use Rattle.cut_draws.specs.declared.delivery.Delivery.{Delivery}
 use Rattle.cut_blocks.specs.Images.{never, image_at, place_in, row_of}
 use Rattle.cut_lanes.specs.Lanes.{lane}
 use Rattle.cut_arrivals.specs.Laws.{ClosesAtPlace}
-use Rattle.cut_arrivals.specs.Hearing.{Hearing, deliveries_of, image_of, proposal_at}
+use Rattle.cut_arrivals.specs.Reception.{Reception, deliveries_of, image_of, proposal_at}
 use Rattle.cut_receivers.specs.declared.receivers.Receivers as declared
 use Rattle.cut_receivers.specs.declared.places.Places as counted
 use Rattle.cut_receivers.specs.declared.deliveries.Kept.{Kept}
 use Rattle.cut_receivers.specs.declared.trial.Trial.{Trial}
-use Rattle.cut_receivers.specs.Heard.{hearing_of, HasHeard, HasKept}
+use Rattle.cut_receivers.specs.Received.{reception_of, HasReceived, HasKept}
 use Rattle.cut_receivers.specs.inside.Places.{image_for}
-use Rattle.cut_receivers.specs.Findings.{has_bit}
+use Rattle.cut_receivers.specs.LaneVerdicts.{has_bit}
 use Rattle.cut_receivers.specs.Places.{HasCountedPlaces}
 use Rattle.cut_receivers.proofs.Bounds.{high_within}
 use Rattle.cut_receivers.proofs.Placed.{lane_long}
 use Rattle.cut_receivers.proofs.Judged.{closed, certain_of, high_at}
 use Rattle.cut_lanes.proofs.Insertions.{length_lane}
 
--- no closing time is after `never`
-pub time_within : (x : Hearing) (subjects : List ℕ) (i : ℕ) (f : declared.Receivers) → HasHeard x subjects i f
-    → slice_index f.closing.time i ≤ never
+-- no proposal time is after `never`
+pub time_within : (x : Reception) (subjects : List ℕ) (i : ℕ) (f : declared.Receivers) → HasReceived x subjects i f
+    → slice_index f.proposal_time.time i ≤ never
 time_within x subjects i f h =
-    let many : length (lane i f.lows.items) ≡ length subjects = length_lane i f.lows.items
-    ∙ lane_long i _ subjects f.lows.items h.lows in
-    let ended : (u : ℕ) → u < length (lane i f.lows.items) → slice_index (lane i f.highs.items) u ≤ never =
+    let many : length (lane i f.reported_at.items) ≡ length subjects = length_lane i f.reported_at.items
+    ∙ lane_long i _ subjects f.reported_at.items h.reported_at in
+    let ended : (u : ℕ) → u < length (lane i f.reported_at.items) → slice_index (lane i f.stable_at.items) u ≤ never =
     grind (arith, high_at x subjects i f h, high_within x) in
-    h.closing.least never (record { begun = λ u low _. ended u low; before = λ u low _. ended u low })
+    h.proposal_time.least never (record { begun = λ u low _. ended u low; before = λ u low _. ended u low })
 
 at_most_one : (n : ℕ) → not (n == 1) ≡ false → n ≤ 1
 at_most_one n is = grind (arith, nat_tests, is)
 
-pub placed : ClosesAtPlace → (x : Hearing) (subjects : List ℕ) (i : ℕ) (f : declared.Receivers)
-    (p : counted.Places) → HasHeard x subjects i f
-    → has_bit f.closing.doubt i ≡ false → HasCountedPlaces x (slice_index f.closing.time i) i p → has_bit p.doubt i
+pub placed : ClosesAtPlace → (x : Reception) (subjects : List ℕ) (i : ℕ) (f : declared.Receivers)
+    (p : counted.Places) → HasReceived x subjects i f
+    → has_bit f.proposal_time.doubt i ≡ false → HasCountedPlaces x (slice_index f.proposal_time.time i) i p
+    → has_bit p.doubt i
     ≡ false
     → IfSome (proposal_at x) (λ q. q.at ≡ slice_index p.until i)
 placed law x subjects i f p h clear counts apart =
-    let t : ℕ = slice_index f.closing.time i in
+    let t : ℕ = slice_index f.proposal_time.time i in
     let ys : List Delivery = deliveries_of x in
     let one : count_by (λ y. image_of x y == t) ys ≤ 1 =
     at_most_one (count_by (λ y. image_of x y == t) ys) (sym counts.doubt ∙ apart) in
-    let proposed = law x never (lane i f.lows.items) (lane i f.highs.items)
-    (slice_index f.closing.first i) t h.hearing (omega arith)
+    let proposed = law x never (lane i f.reported_at.items) (lane i f.stable_at.items)
+    (slice_index f.proposal_time.first i) t h.reception (omega arith)
     (closed x subjects i f h (certain_of x subjects i f h clear)) one in
     grind arith
 
 -- in lane i stand the images of the blocks that are known, as they do of what was heard
 pub knows_images : (t : Trial) (receivers blocks bs : List ℕ) (ks : List (List (List ℕ))) (kept : Kept) (i : ℕ)
-    (f : declared.Receivers) → HasKept (hearing_of t (slice_index receivers i)) i f
+    (f : declared.Receivers) → HasKept (reception_of t (slice_index receivers i)) i f
     → bs ≡ f.kept_blocks.items → ks ≡ f.kept.items
     → ((b : ℕ) → b < kept.known → slice_index blocks b ≡ slice_index bs b)
     → (0 < kept.known → (kept.images.now ≡ ks) × (kept.blocks ≡ length bs)) → kept.known ≤ kept.blocks

@@ -1,4 +1,4 @@
-pub mod Heard
-pub mod Findings
+pub mod Received
+pub mod LaneVerdicts
 pub mod Places
 pub mod inside

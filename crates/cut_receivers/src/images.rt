@@ -4,7 +4,7 @@ ghost use Rattle.cut_blocks.specs.Images.{eight, least_image, row_of};
 use crate::Trial;
 use std::simd::u32x4;
 
-/// The images of the keys of a trial's nodes, drawn for four receivers.
+/// The images of the keys of a trial's candidates, drawn for four receivers.
 #[derive(Clone, Copy, Debug)]
 pub(crate) struct Images<'a> {
     pub trial: Trial<'a>,
@@ -13,5 +13,5 @@ pub(crate) struct Images<'a> {
     ghost four: { length receivers ≡ 4 },
     ghost are_drawn: { drawn.now ≡ map
         (λ block. eight (least_image trial.blocks.now trial.copies block) (map (λ j. row_of 0 j) receivers))
-        trial.nodes.now.blocks.items },
+        trial.candidates.now.blocks.items },
 }

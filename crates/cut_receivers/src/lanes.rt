@@ -4,7 +4,7 @@ ghost use Rattle.std.specs.Prelude.{map, length, slice_index, All};
 ghost use Rattle.cut_plan.specs.declared.limits.TheConstants.{MOST_NODES};
 ghost use Rattle.cut_blocks.specs.Images.{never, row_of};
 ghost use Rattle.cut_lanes.specs.Lanes.{lane};
-ghost use Rattle.cut_receivers.specs.inside.Findings.{is_other};
+ghost use Rattle.cut_receivers.specs.inside.LaneVerdicts.{is_other};
 
 use cut_blocks::NEVER;
 use std::simd::prelude::*;
@@ -55,15 +55,15 @@ pub(crate) fn silences(time: u32x4) -> u32x4
         .select(u32x4::splat(0), u32x4::splat(1))
 }
 
-/// 1 if some node has ended by the time and is not expected, or is expected and has not ended; 0 elsewhere.
+/// 1 if some candidate has ended by the time and is not expected, or is expected and has not ended; 0 elsewhere.
 #[inline(always)]
-pub(crate) fn others(highs: &[u32x4], time: u32x4, wanted: &[bool]) -> u32x4
-    requires { length wanted.now ≡ length highs.now }
+pub(crate) fn others(stable_at: &[u32x4], time: u32x4, wanted: &[bool]) -> u32x4
+    requires { length wanted.now ≡ length stable_at.now }
     ensures { (i : ℕ) → i < 4 → slice_index result i
-        ≡ cond (is_other (slice_index time i) (lane i highs.now) wanted.now (length highs.now)) 1 0 }
+        ≡ cond (is_other (slice_index time i) (lane i stable_at.now) wanted.now (length stable_at.now)) 1 0 }
 {
     let mut marks = u32x4::splat(0);
-    for (place, high) in highs.iter().enumerate() {
+    for (place, high) in stable_at.iter().enumerate() {
         let next = if wanted[place] {
             marked_late(marks, time, *high)
         } else {

@@ -1,12 +1,12 @@
 //! What four receivers of a trial propose, computed side by side.
 //!
 //! Each receiver is a lane of vectors. Its keys are drawn as images, and of these come the times from which on each
-//! node is reported and stable, and the time at which the receiver proposes. Where images that are equal leave that in
-//! doubt, the lane says so, and its caller replays that receiver's deliveries by whole keys.
+//! candidate is reported and stable, and the time at which the receiver proposes. Where images that are equal leave
+//! that in doubt, the lane says so, and its caller replays that receiver's deliveries by whole keys.
 #![tactic(auto)]
 
 mod deliveries;
-mod finding;
+mod lane_verdict;
 mod gathered;
 mod images;
 mod lanes;
@@ -15,7 +15,7 @@ mod receivers;
 mod times;
 mod trial;
 
-pub use finding::{Finding, Findings};
+pub use lane_verdict::{LaneVerdict, LaneVerdicts};
 pub use places::Places;
 pub use receivers::Receivers;
 pub use trial::Trial;

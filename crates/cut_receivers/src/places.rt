@@ -2,20 +2,20 @@ ghost use Rattle.std.specs.Prelude.{◌≡◌, ℕ, ◌+◌, ◌*◌, ◌^◌, �
 ghost use Rattle.std.specs.Prelude.{All, IfOk, IfSome, OnOk};
 ghost use Rattle.cut_plan.specs.declared.limits.TheConstants.{MOST_NODES};
 ghost use Rattle.cut_blocks.specs.Images.{never};
-ghost use Rattle.cut_arrivals.specs.Hearing.{Hearing, proposal_at};
-ghost use Rattle.cut_nodes.specs.Slots.{AreSlots};
-ghost use Rattle.cut_receivers.specs.Heard.{hearing_of, HasHeard};
-ghost use Rattle.cut_receivers.specs.Findings.{has_bit};
+ghost use Rattle.cut_arrivals.specs.Reception.{Reception, proposal_at};
+ghost use Rattle.cut_candidates.specs.KeyPlaces.{AreKeyPlaces};
+ghost use Rattle.cut_receivers.specs.Received.{reception_of, HasReceived};
+ghost use Rattle.cut_receivers.specs.LaneVerdicts.{has_bit};
 ghost use Rattle.cut_receivers.specs.Places.{HasCountedPlaces};
-ghost use Rattle.cut_receivers.specs.inside.Places.{image_in, hearing_to, KnowsImages, AreImagesOf};
+ghost use Rattle.cut_receivers.specs.inside.Places.{image_in, reception_to, KnowsImages, AreImagesOf};
 
 use crate::deliveries::{Deliveries, Kept};
-use crate::finding::has_bit;
+use crate::lane_verdict::has_bit;
 use crate::lanes::{bits_of, counted, next_of, not_next, rows_of};
 use crate::{Receivers, Trial};
 use cut_arrivals::laws::images_give_the_place;
 use cut_blocks::laws::{deliveries_stand_in_blocks, images_are_below_never};
-use cut_nodes::{Slot, Slots};
+use cut_candidates::{KeyPlace, KeyPlaces};
 use std::alloc::AllocError;
 use std::simd::u32x4;
 
@@ -49,31 +49,33 @@ impl Places {
 }
 
 impl Receivers {
-    /// Counts the deliveries that have come when four receivers propose, by the slots of all alerted edges, for the
-    /// receivers whose times were computed. Of images that are kept none is drawn again. A place is in doubt exactly if the receiver's closing time is not the image
-    /// of exactly one delivery, so also where it never proposes. Fails only if memory runs out.
+    /// Counts the deliveries that have come when four receivers propose, by the key places of all alerted edges, for
+    /// the receivers whose times were computed. Of images that are kept none is drawn again. A place is in doubt
+    /// exactly if the receiver's proposal time is not the image of exactly one delivery, so also where it never
+    /// proposes. Fails only if memory runs out.
     pub fn places(
         &mut self,
         trial: Trial<'_>,
         receivers: [u16; 4],
-        slots: &Slots,
+        key_places: &KeyPlaces,
     ) -> Result<Places, AllocError>
         requires receivers { All (λ j. j < MOST_NODES) receivers }
-        requires slots { AreSlots trial.rule.k slots.now.blocks.items trial.edges.now slots.now.slots.items }
+        requires key_places { AreKeyPlaces trial.rule.k key_places.now.blocks.items trial.edges.now
+            key_places.now.key_places.items }
         requires few { length trial.edges.now ≤ 2 ^ 16 }
         ensures places { IfOk result (λ p. (i : ℕ) (subjects : List ℕ) → i < 4
-            → HasHeard (hearing_of trial.entry (slice_index receivers i)) subjects i self.old
-            → has_bit self.old.closing.doubt i ≡ false → has_bit p.doubt i ≡ false
-            → IfSome (proposal_at (hearing_of trial.entry (slice_index receivers i)))
+            → HasReceived (reception_of trial.entry (slice_index receivers i)) subjects i self.old
+            → has_bit self.old.proposal_time.doubt i ≡ false → has_bit p.doubt i ≡ false
+            → IfSome (proposal_at (reception_of trial.entry (slice_index receivers i)))
             (λ q. q.at ≡ slice_index p.until i)) }
         ensures counted { IfOk result (λ p. (i : ℕ) (subjects : List ℕ) → i < 4
-            → HasHeard (hearing_of trial.entry (slice_index receivers i)) subjects i self.old
-            → HasCountedPlaces (hearing_of trial.entry (slice_index receivers i))
-            (slice_index self.old.closing.time i) i p) }
+            → HasReceived (reception_of trial.entry (slice_index receivers i)) subjects i self.old
+            → HasCountedPlaces (reception_of trial.entry (slice_index receivers i))
+            (slice_index self.old.proposal_time.time i) i p) }
         ensures four { IfOk result (λ p. p.doubt < 2 ^ 4) }
-        ensures same { (x : Hearing) (subjects : List ℕ) (i : ℕ) → HasHeard x subjects i self.old
-            → HasHeard x subjects i self.new }
-        ensures closing { self.new.closing ≡ self.old.closing }
+        ensures same { (x : Reception) (subjects : List ℕ) (i : ℕ) → HasReceived x subjects i self.old
+            → HasReceived x subjects i self.new }
+        ensures proposal_time { self.new.proposal_time ≡ self.old.proposal_time }
     {
         images_give_the_place();
         let kept = self.kept.as_slice();
@@ -81,10 +83,10 @@ impl Receivers {
         let deliveries = Deliveries {
             trial,
             receivers,
-            slots,
-            kept: kept_for(kept, blocks, trial.copies, slots),
+            key_places,
+            kept: kept_for(kept, blocks, trial.copies, key_places),
         };
-        deliveries.count(self.closing.time, &mut self.images)
+        deliveries.count(self.proposal_time.time, &mut self.images)
     }
 }
 
@@ -92,7 +94,7 @@ impl Deliveries<'_, '_, '_> {
     /// Counts the deliveries whose images are at most a time, drawing images in place of what the list held.
     fn count(&self, time: u32x4, images: &mut Vec<[u32x4; 8]>) -> Result<Places, AllocError>
         ensures counted { IfOk result (λ p. (i : ℕ) → i < 4 → KnowsImages self.now i → slice_index time i ≤ never
-            → HasCountedPlaces (hearing_to self.now i) (slice_index time i) i p) }
+            → HasCountedPlaces (reception_to self.now i) (slice_index time i) i p) }
         ensures four { IfOk result (λ p. p.doubt < 2 ^ 4) }
     {
         deliveries_stand_in_blocks();
@@ -101,10 +103,10 @@ impl Deliveries<'_, '_, '_> {
         let mut before = u32x4::splat(0);
         for copy in 0..self.trial.copies {
             self.draw(images, copy)?;
-            let slots = self.slots.slots.as_slice();
-            let more = count(until, images.as_slice(), slots, next);
+            let key_places = self.key_places.key_places.as_slice();
+            let more = count(until, images.as_slice(), key_places, next);
             until = more;
-            let more = count(before, images.as_slice(), slots, time);
+            let more = count(before, images.as_slice(), key_places, time);
             before = more;
         }
         let doubt = bits_of(not_next(before, until));
@@ -115,9 +117,9 @@ impl Deliveries<'_, '_, '_> {
     /// are drawn.
     fn draw(&self, images: &mut Vec<[u32x4; 8]>, copy: u8) -> Result<(), AllocError>
         requires { copy < self.now.trial.copies }
-        ensures many { OnOk result (length images.new.items ≡ length self.now.slots.now.blocks.items) }
+        ensures many { OnOk result (length images.new.items ≡ length self.now.key_places.now.blocks.items) }
         ensures each { OnOk result ((i : ℕ) → i < 4 → KnowsImages self.now i
-            → AreImagesOf (hearing_to self.now i) copy i self.now.slots.now.blocks.items images.new.items) }
+            → AreImagesOf (reception_to self.now i) copy i self.now.key_places.now.blocks.items images.new.items) }
     {
         images_are_below_never();
         let Kept {
@@ -127,7 +129,7 @@ impl Deliveries<'_, '_, '_> {
         } = self.kept;
         let (_, copies) = kept.split_at(usize::from(copy) * blocks);
         let (first, _) = copies.split_at(known);
-        let (_, others) = self.slots.blocks.split_at(known);
+        let (_, others) = self.key_places.blocks.split_at(known);
         images.clear();
         images.extend_from_slice(first)?;
         let rows = rows_of(self.receivers, copy);
@@ -137,12 +139,12 @@ impl Deliveries<'_, '_, '_> {
 }
 
 /// The images that are kept of some blocks, if there are as many as these copies have.
-fn kept_for<'a>(kept: &'a [[u32x4; 8]], blocks: &[u32], copies: u8, slots: &Slots) -> Kept<'a>
+fn kept_for<'a>(kept: &'a [[u32x4; 8]], blocks: &[u32], copies: u8, key_places: &KeyPlaces) -> Kept<'a>
     ensures whole { copies * result.blocks ≤ length result.images.now }
     ensures known { result.known ≤ result.blocks }
-    ensures first { result.known ≤ length slots.now.blocks.items }
+    ensures first { result.known ≤ length key_places.now.blocks.items }
     ensures same { (b : ℕ) → b < result.known
-        → slice_index slots.now.blocks.items b ≡ slice_index blocks.now b }
+        → slice_index key_places.now.blocks.items b ≡ slice_index blocks.now b }
     ensures kept { 0 < result.known → (result.images.now ≡ kept.now) × (result.blocks ≡ length blocks.now) }
 {
     if blocks.len().checked_mul(usize::from(copies)) != Some(kept.len()) {
@@ -155,7 +157,7 @@ fn kept_for<'a>(kept: &'a [[u32x4; 8]], blocks: &[u32], copies: u8, slots: &Slot
     Kept {
         images: kept,
         blocks: blocks.len(),
-        known: common_len(blocks, slots.blocks.as_slice()),
+        known: common_len(blocks, key_places.blocks.as_slice()),
     }
 }
 
@@ -172,17 +174,17 @@ fn common_len(left: &[u32], right: &[u32]) -> usize
     len
 }
 
-/// A count, and one more for each slot whose image is below a bound.
-fn count(old: u32x4, images: &[[u32x4; 8]], slots: &[Slot], bound: u32x4) -> u32x4
-    requires within { All (λ slot. slot.block < length images.now) slots.now }
-    requires keys { All (λ slot. slot.key < 8) slots.now }
-    requires few { (i : ℕ) → i < 4 → slice_index old i + length slots.now < 2 ^ 32 }
+/// A count, and one more for each key place whose image is below a bound.
+fn count(old: u32x4, images: &[[u32x4; 8]], key_places: &[KeyPlace], bound: u32x4) -> u32x4
+    requires within { All (λ key_place. key_place.block < length images.now) key_places.now }
+    requires keys { All (λ key_place. key_place.key < 8) key_places.now }
+    requires few { (i : ℕ) → i < 4 → slice_index old i + length key_places.now < 2 ^ 32 }
     ensures { (i : ℕ) → i < 4 → slice_index result i ≡ slice_index old i
-        + count_by (λ slot. nat_lt (image_in images.now i slot) (slice_index bound i)) slots.now }
+        + count_by (λ key_place. nat_lt (image_in images.now i key_place) (slice_index bound i)) key_places.now }
 {
     let mut sum = old;
-    for slot in slots {
-        let image = images[usize::from(slot.block)][usize::from(slot.key)];
+    for key_place in key_places {
+        let image = images[usize::from(key_place.block)][usize::from(key_place.key)];
         let more = counted(sum, image, bound);
         sum = more;
     }

@@ -1,11 +1,12 @@
-//! From when on nodes are reported and stable at four receivers, by images.
+//! From when on candidates are reported and stable at four receivers, by images.
 ghost use Rattle.std.specs.Prelude.{◌≡◌, ℕ, ◌<◌, ◌≤◌, false, All, map, length, slice_index, vec_capacity};
 ghost use Rattle.cut_blocks.specs.Images.{never};
 ghost use Rattle.cut_ranks.specs.Ranks.{IsRank};
 ghost use Rattle.cut_lanes.specs.Lanes.{lane};
-ghost use Rattle.cut_arrivals.specs.Hearing.{lows_at};
-ghost use Rattle.cut_nodes.specs.Nodes.{AreNodesWithin, cause_in};
-ghost use Rattle.cut_receivers.specs.inside.Times.{hearing_in, subjects_in, IsNodeOf, AreLows, AreLowsAnd, IsHigh};
+ghost use Rattle.cut_arrivals.specs.Reception.{lows_at};
+ghost use Rattle.cut_candidates.specs.Candidates.{AreCandidatesWithin, cause_in};
+ghost use Rattle.cut_receivers.specs.inside.Times.{reception_in, subjects_in, IsCandidateOf, AreReportedAt};
+ghost use Rattle.cut_receivers.specs.inside.Times.{AreReportedAtAnd, IsHigh};
 ghost use Rattle.cut_receivers.specs.inside.Times.{time_of_cause};
 
 use crate::images::Images;
@@ -14,87 +15,87 @@ use cut_arrivals::laws::{few_values_give_lows_and_highs, images_stand_in_blocks}
 use cut_blocks::NEVER;
 use cut_detector::Rule;
 use cut_lanes::select;
-use cut_nodes::{Cause, Node};
+use cut_candidates::{Cause, Candidate};
 use std::simd::u32x4;
 
 impl Images<'_> {
-    /// From when on a node is reported, and from when on it is stable if it gains no ring.
+    /// From when on a candidate is reported, and from when on it is stable if it gains no ring.
     #[inline(always)]
-    pub fn times(&self, values: &mut Vec<u32x4>, node: &Node) -> (u32x4, u32x4)
-        requires node { IsNodeOf self.now.trial node.now }
+    pub fn times(&self, values: &mut Vec<u32x4>, candidate: &Candidate) -> (u32x4, u32x4)
+        requires candidate { IsCandidateOf self.now.trial candidate.now }
         requires room { 32 ≤ vec_capacity values.old }
         ensures low { (i : ℕ) → i < 4
-            → slice_index result.0 i ≡ lows_at (hearing_in self.now i) never node.now.subject }
-        ensures high { node.now.gains ≡ false → IsHigh self.now node.now.subject result.1 }
+            → slice_index result.0 i ≡ lows_at (reception_in self.now i) never candidate.now.subject }
+        ensures high { candidate.now.gains ≡ false → IsHigh self.now candidate.now.subject result.1 }
         ensures capacity { vec_capacity values.new ≡ vec_capacity values.old }
     {
         images_stand_in_blocks();
         few_values_give_lows_and_highs();
-        self.gather(values, node.heard.as_slice());
+        self.gather(values, candidate.heard.as_slice());
         ranks(self.trial.rule, values.as_slice())
     }
 
-    /// From when on a node is stable with the rings that it gains, by the lows of all nodes and its own.
+    /// From when on a candidate is stable with the rings that it gains, by the lows of all candidates and its own.
     #[inline(always)]
     pub fn stable_from(
         &self,
         values: &mut Vec<u32x4>,
-        lows: &[u32x4],
+        reported_at: &[u32x4],
         low: u32x4,
-        node: &Node,
+        candidate: &Candidate,
     ) -> u32x4
-        requires node { IsNodeOf self.now.trial node.now }
-        requires lows { AreLowsAnd self.now node.now.subject low lows.now }
+        requires candidate { IsCandidateOf self.now.trial candidate.now }
+        requires reported_at { AreReportedAtAnd self.now candidate.now.subject low reported_at.now }
         requires room { 32 ≤ vec_capacity values.old }
-        ensures high { IsHigh self.now node.now.subject result }
+        ensures high { IsHigh self.now candidate.now.subject result }
         ensures capacity { vec_capacity values.new ≡ vec_capacity values.old }
     {
         images_stand_in_blocks();
         few_values_give_lows_and_highs();
-        self.gather_counted(values, lows, low, node);
+        self.gather_counted(values, reported_at, low, candidate);
         let (_, high) = ranks(self.trial.rule, values.as_slice());
         high
     }
 
-    /// From when on each ring that counts for a node in the end does so, in place of what the list held.
+    /// From when on each ring that counts for a candidate in the end does so, in place of what the list held.
     #[inline(always)]
-    fn gather_counted(&self, values: &mut Vec<u32x4>, lows: &[u32x4], low: u32x4, node: &Node)
-        requires node { IsNodeOf self.now.trial node.now }
-        requires lows { AreLowsAnd self.now node.now.subject low lows.now }
+    fn gather_counted(&self, values: &mut Vec<u32x4>, reported_at: &[u32x4], low: u32x4, candidate: &Candidate)
+        requires candidate { IsCandidateOf self.now.trial candidate.now }
+        requires reported_at { AreReportedAtAnd self.now candidate.now.subject low reported_at.now }
         requires room { 32 ≤ vec_capacity values.old }
         ensures times { (i : ℕ) → i < 4 → lane i values.new.items
-            ≡ map (λ c. time_of_cause (hearing_in self.now i) node.now.subject
-            (cause_in self.now.trial.nodes.now.blocks.items (subjects_in self.now) c)) node.now.causes.items }
-        ensures many { length values.new.items ≡ length node.now.causes.items }
+            ≡ map (λ c. time_of_cause (reception_in self.now i) candidate.now.subject
+            (cause_in self.now.trial.candidates.now.blocks.items (subjects_in self.now) c)) candidate.now.causes.items }
+        ensures many { length values.new.items ≡ length candidate.now.causes.items }
         ensures capacity { vec_capacity values.new ≡ vec_capacity values.old }
     {
         values.clear();
-        for cause in &node.causes {
-            values.push_reserved(self.counted_from(lows, low, *cause));
+        for cause in &candidate.causes {
+            values.push_reserved(self.counted_from(reported_at, low, *cause));
         }
     }
 
-    /// From when on a ring counts for a node that is reported from `low` on.
+    /// From when on a ring counts for a candidate that is reported from `low` on.
     #[inline(always)]
-    fn counted_from(&self, lows: &[u32x4], low: u32x4, cause: Cause) -> u32x4
-        requires cause { AreNodesWithin self.now.trial.nodes.now.blocks.items (subjects_in self.now) cause }
-        requires lows { AreLows self.now lows.now }
-        ensures { (i s : ℕ) → i < 4 → slice_index low i ≡ lows_at (hearing_in self.now i) never s
-            → slice_index result i ≡ time_of_cause (hearing_in self.now i) s
-            (cause_in self.now.trial.nodes.now.blocks.items (subjects_in self.now) cause) }
+    fn counted_from(&self, reported_at: &[u32x4], low: u32x4, cause: Cause) -> u32x4
+        requires cause { AreCandidatesWithin self.now.trial.candidates.now.blocks.items (subjects_in self.now) cause }
+        requires reported_at { AreReportedAt self.now reported_at.now }
+        ensures { (i s : ℕ) → i < 4 → slice_index low i ≡ lows_at (reception_in self.now i) never s
+            → slice_index result i ≡ time_of_cause (reception_in self.now i) s
+            (cause_in self.now.trial.candidates.now.blocks.items (subjects_in self.now) cause) }
     {
         let image = match cause.heard {
-            Some(slot) => self.image(slot),
+            Some(key_place) => self.image(key_place),
             None => u32x4::splat(NEVER),
         };
         match cause.gained {
-            Some(place) => earlier(image, low, lows[usize::from(place)]),
+            Some(place) => earlier(image, low, reported_at[usize::from(place)]),
             None => image,
         }
     }
 }
 
-/// The ranks of times that make a node reported and stable.
+/// The ranks of times that make a candidate reported and stable.
 fn ranks(rule: Rule, times: &[u32x4]) -> (u32x4, u32x4)
     requires few { length times.now ≤ 32 }
     requires times { (i : ℕ) → i < 4 → All (λ x. x ≤ never) (lane i times.now) }

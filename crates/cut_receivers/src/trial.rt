@@ -2,11 +2,11 @@ ghost use Rattle.std.specs.Prelude.{◌≤◌, length};
 ghost use Rattle.std.proofs.Props.{props};
 ghost use Rattle.cut_rings.specs.Layout.{IsLayout};
 ghost use Rattle.cut_detector.specs.Rule.{rule_in};
-ghost use Rattle.cut_nodes.specs.Nodes.{AreNodesOf};
+ghost use Rattle.cut_candidates.specs.Candidates.{AreCandidatesOf};
 
 use cut_blocks::Blocks;
 use cut_detector::Rule;
-use cut_nodes::Nodes;
+use cut_candidates::Candidates;
 use cut_rings::{Edge, Rings};
 
 /// What all receivers of a trial have in common.
@@ -22,11 +22,12 @@ pub struct Trial<'a> {
     pub copies: u8,
     /// The blocks of the trial's keys.
     pub blocks: &'a Blocks,
-    /// The nodes of the edges.
-    pub nodes: &'a Nodes,
+    /// The candidates of the edges.
+    pub candidates: &'a Candidates,
     ghost some: { 1 ≤ copies },
     ghost few: { copies ≤ 4 },
     ghost layout: { IsLayout rings.now },
     ghost within: { rule.k ≤ length rings.now.positions },
-    ghost nodes_are: { AreNodesOf rings.now (rule_in rule) edges.now nodes.now } by { Prim.hlevel props },
+    ghost candidates_are: { AreCandidatesOf rings.now (rule_in rule) edges.now candidates.now }
+        by { Prim.hlevel props },
 }

@@ -10,7 +10,7 @@ use std::alloc::{AllocError, Global};
 use std::process::Abort;
 use std::test::Fail;
 
-/// Rings, high and low watermark: all alerts are of nodes, some, and few.
+/// Rings, high and low watermark: all alerts are of candidates, some, and few.
 const RULES: [(u8, u8, u8); 4] = [(4, 3, 1), (10, 9, 4), (10, 10, 8), (32, 12, 6)];
 
 /// Whether the same is said of the places of four receivers.
@@ -26,16 +26,16 @@ fn are_kept(
     receivers: [u16; 4],
 ) -> Result<bool, AllocError>
     requires receivers { All (λ j. j < 2048) receivers }
-    requires some { 0 < length scene.trial.nodes.now.nodes.items }
+    requires some { 0 < length scene.trial.candidates.now.candidates.items }
 {
     let wanted = places_of(drawn, scene, receivers)?;
-    kept.hear_copies(scene.trial, receivers)?;
-    let places = kept.places(scene.trial, receivers, scene.slots)?;
-    let again = kept.places(scene.trial, receivers, scene.slots)?;
+    kept.receive_copies(scene.trial, receivers)?;
+    let places = kept.places(scene.trial, receivers, scene.key_places)?;
+    let again = kept.places(scene.trial, receivers, scene.key_places)?;
     Ok(are_same(&places, &wanted)
         && are_same(&again, &wanted)
-        && kept.closing.time.to_array() == drawn.closing.time.to_array()
-        && kept.closing.doubt == drawn.closing.doubt)
+        && kept.proposal_time.time.to_array() == drawn.proposal_time.time.to_array()
+        && kept.proposal_time.doubt == drawn.proposal_time.doubt)
 }
 
 /// How many of a drawn trial's receivers were heard both ways, with the same result.
@@ -49,7 +49,7 @@ fn check_trial(
     let setting = Setting::drawn(rt, alloc, rule, number)?;
     let blocks = Blocks::new(SEED, number);
     let scene = setting.scene(&blocks, number, 1 + (number % 4) as u8);
-    if scene.trial.nodes.nodes.is_empty() {
+    if scene.trial.candidates.candidates.is_empty() {
         return Ok(0);
     }
     assert!(rt; are_kept(drawn, kept, scene, [0, 3, 700, 2047])?);

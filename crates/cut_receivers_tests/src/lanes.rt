@@ -6,7 +6,7 @@ use crate::setting::{SEED, Scene, Setting};
 use cut_blocks::Blocks;
 use cut_detector::{Proposal, Rule};
 use cut_draws::Draws;
-use cut_receivers::{Finding, Findings, Places, Receivers};
+use cut_receivers::{LaneVerdict, LaneVerdicts, Places, Receivers};
 use std::alloc::{AllocError, Global};
 use std::process::Abort;
 use std::test::Fail;
@@ -36,14 +36,14 @@ struct Counts {
 }
 
 impl Counts {
-    /// The tally with a finding more.
-    fn with(self, finding: Finding) -> Counts {
+    /// The tally with one more lane verdict.
+    fn with(self, lane_verdict: LaneVerdict) -> Counts {
         let mut tally = self;
-        match finding {
-            Finding::Doubtful => {}
-            Finding::Silent => tally.silent = tally.silent.saturating_add(1),
-            Finding::Wanted => tally.wanted = tally.wanted.saturating_add(1),
-            Finding::Other => tally.others = tally.others.saturating_add(1),
+        match lane_verdict {
+            LaneVerdict::Doubtful => {}
+            LaneVerdict::Silent => tally.silent = tally.silent.saturating_add(1),
+            LaneVerdict::Wanted => tally.wanted = tally.wanted.saturating_add(1),
+            LaneVerdict::Other => tally.others = tally.others.saturating_add(1),
         }
         tally
     }
@@ -58,7 +58,7 @@ impl Counts {
     }
 }
 
-/// The expected members, and for each node whether it is one.
+/// The expected members, and for each candidate whether it is one.
 #[derive(Drop)]
 pub(crate) struct Wanted {
     members: Vec<u16>,
@@ -66,17 +66,17 @@ pub(crate) struct Wanted {
 }
 
 impl Wanted {
-    /// The members that receiver 0 proposes, or all nodes where it proposes none.
+    /// The members that receiver 0 proposes, or all candidates where it proposes none.
     pub fn new(alloc: Global, scene: Scene<'_>) -> Result<Wanted, AllocError> {
-        let nodes = &scene.trial.nodes.nodes;
+        let candidates = &scene.trial.candidates.candidates;
         let mut draws = Draws::new(SEED, scene.number);
         let members = match replayed(alloc, scene, &mut draws, 0)? {
             Some(proposal) => proposal.members.into_vec(),
-            None => nodes.iter().map(|node| node.subject).collect(alloc)?,
+            None => candidates.iter().map(|candidate| candidate.subject).collect(alloc)?,
         };
-        let flags = nodes
+        let flags = candidates
             .iter()
-            .map(|node| members.contains(&node.subject))
+            .map(|candidate| members.contains(&candidate.subject))
             .collect(alloc)?;
         Ok(Wanted { members, flags })
     }
@@ -87,19 +87,19 @@ impl Wanted {
 struct Said {
     lane: usize,
     receiver: u16,
-    finding: Finding,
+    lane_verdict: LaneVerdict,
     place: Option<u32>,
 }
 
 impl Said {
     /// Whether that is what was replayed, with these members.
     fn is_replayed(self, members: &[u16], proposal: &Option<Proposal>, wanted: &[u16]) -> bool {
-        match (self.finding, proposal) {
-            (Finding::Doubtful, _) | (Finding::Silent, None) => true,
-            (Finding::Wanted | Finding::Other, Some(proposal)) => {
+        match (self.lane_verdict, proposal) {
+            (LaneVerdict::Doubtful, _) | (LaneVerdict::Silent, None) => true,
+            (LaneVerdict::Wanted | LaneVerdict::Other, Some(proposal)) => {
                 let is_wanted = members == wanted;
                 members == proposal.members.as_slice()
-                    && is_wanted == (self.finding == Finding::Wanted)
+                    && is_wanted == (self.lane_verdict == LaneVerdict::Wanted)
                     && self
                         .place
                         .is_none_or(|place| u64::from(place) == proposal.at)
@@ -127,10 +127,10 @@ pub(crate) fn places_of(
     receivers: [u16; 4],
 ) -> Result<Places, AllocError>
     requires receivers { All (λ j. j < 2048) receivers }
-    requires some { 0 < length scene.trial.nodes.now.nodes.items }
+    requires some { 0 < length scene.trial.candidates.now.candidates.items }
 {
-    heard.hear(scene.trial, receivers)?;
-    heard.places(scene.trial, receivers, scene.slots)
+    heard.receive(scene.trial, receivers)?;
+    heard.places(scene.trial, receivers, scene.key_places)
 }
 
 /// Whether what is said of a lane is what is replayed to its receiver.
@@ -143,13 +143,13 @@ fn is_right(
 ) -> Result<bool, AllocError>
     requires { said.receiver < 2048 }
 {
-    let nodes = scene.trial.nodes;
-    if said.lane >= 4 || nodes.nodes.len() != heard.highs.len() {
+    let candidates = scene.trial.candidates;
+    if said.lane >= 4 || candidates.candidates.len() != heard.stable_at.len() {
         return Ok(false);
     }
     let mut draws = Draws::new(SEED, scene.number);
     let mut members = Vec::new(alloc);
-    heard.members(nodes, said.lane, &mut members)?;
+    heard.members(candidates, said.lane, &mut members)?;
     let proposal = replayed(alloc, scene, &mut draws, said.receiver)?;
     Ok(said.is_replayed(&members, &proposal, &wanted.members))
 }
@@ -161,29 +161,29 @@ pub(crate) fn found_as_replayed(
     scene: Scene<'_>,
     receivers: [u16; 4],
     wanted: &Wanted,
-) -> Result<Option<Findings>, AllocError>
+) -> Result<Option<LaneVerdicts>, AllocError>
     requires { All (λ j. j < 2048) receivers }
 {
-    if scene.trial.nodes.nodes.is_empty() {
+    if scene.trial.candidates.candidates.is_empty() {
         return Ok(None);
     }
     let places = places_of(heard, scene, receivers)?;
-    if heard.highs.len() != wanted.flags.len() {
+    if heard.stable_at.len() != wanted.flags.len() {
         return Ok(None);
     }
-    let findings = heard.judge(&wanted.flags);
+    let lane_verdicts = heard.judge(&wanted.flags);
     for lane in 0..4 {
         let said = Said {
             lane,
             receiver: receivers[lane],
-            finding: findings.at(lane),
+            lane_verdict: lane_verdicts.at(lane),
             place: place_in(&places, lane),
         };
         if !is_right(alloc, heard, scene, said, wanted)? {
             return Ok(None);
         }
     }
-    Ok(Some(findings))
+    Ok(Some(lane_verdicts))
 }
 
 /// Four receivers from a place in their list on.
@@ -218,9 +218,9 @@ fn check_list(
     for four in 0..receivers.len().div_ceil(4) {
         let receivers = four_from(receivers, four.saturating_mul(4));
         let found = found_as_replayed(alloc, heard, scene, receivers, wanted)?;
-        let findings = found.ok_or("a lane differs from its replay")?;
-        let more = tally_of(findings);
-        if findings.has_proposals() != (more.wanted > 0 || more.others > 0) {
+        let lane_verdicts = found.ok_or("a lane differs from its replay")?;
+        let more = tally_of(lane_verdicts);
+        if lane_verdicts.has_proposals() != (more.wanted > 0 || more.others > 0) {
             return Err("proposals that no lane has".into());
         }
         tally = tally.plus(more);
@@ -229,10 +229,10 @@ fn check_list(
 }
 
 /// What is found of the receivers in four lanes.
-fn tally_of(findings: Findings) -> Counts {
+fn tally_of(lane_verdicts: LaneVerdicts) -> Counts {
     let mut tally = Counts::default();
     for lane in 0..4 {
-        tally = tally.with(findings.at(lane));
+        tally = tally.with(lane_verdicts.at(lane));
     }
     tally
 }
@@ -249,7 +249,7 @@ fn check_trial(
     let blocks = Blocks::new(SEED, number);
     let scene = setting.scene(&blocks, number, 1 + (number % 3) as u8);
     let mut tally = Counts::default();
-    if scene.trial.nodes.nodes.is_empty() {
+    if scene.trial.candidates.candidates.is_empty() {
         return Ok(tally);
     }
     let wanted = Wanted::new(alloc, scene)?;

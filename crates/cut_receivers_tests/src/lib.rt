@@ -1,6 +1,6 @@
-//! What no contract of `cut_nodes` and `cut_receivers` says: nodes beside a recount, receivers of drawn trials beside
-//! detectors to which their deliveries are replayed one by one, receivers whose images tie, images of so few bits that
-//! many tie, and receivers for whose times memory runs out.
+//! What no contract of `cut_candidates` and `cut_receivers` says: candidates beside a recount, receivers of drawn
+//! trials beside detectors to which their deliveries are replayed one by one, receivers whose images tie, images of so
+//! few bits that many tie, and receivers for whose times memory runs out.
 //!
 //! The tests stand in a crate of their own, as they use these crates as their callers do, and the proofs of the crates
 //! need not be made again for them.
@@ -15,7 +15,7 @@ mod edges;
 #[cfg(test)]
 mod lanes;
 #[cfg(test)]
-mod nodes;
+mod candidates;
 #[cfg(test)]
 mod refused_memory;
 #[cfg(test)]

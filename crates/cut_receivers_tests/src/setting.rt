@@ -5,14 +5,14 @@ ghost use Rattle.cut_rings.specs.Layout.{IsLayout};
 ghost use Rattle.cut_rings.specs.Edges.{are_edges_of};
 ghost use Rattle.cut_draws.specs.DeliveryOrder.{are_distinct};
 ghost use Rattle.cut_detector.specs.Rule.{rule_in};
-ghost use Rattle.cut_nodes.specs.Nodes.{AreNodesOf};
-ghost use Rattle.cut_nodes.specs.Slots.{AreSlots};
+ghost use Rattle.cut_candidates.specs.Candidates.{AreCandidatesOf};
+ghost use Rattle.cut_candidates.specs.KeyPlaces.{AreKeyPlaces};
 
 use crate::drawn::{drawn_rings, drawn_roles};
 use cut_alerts::{Roles, alerts};
 use cut_blocks::Blocks;
 use cut_detector::Rule;
-use cut_nodes::{Nodes, Slots};
+use cut_candidates::{Candidates, KeyPlaces};
 use cut_receivers::Trial;
 use cut_rings::{Edge, Rings};
 use rand_chacha::ChaCha8Rng;
@@ -25,35 +25,37 @@ use std::test::Fail;
 /// The seed of all keys.
 pub(crate) const SEED: [u8; 32] = [9; 32];
 
-/// The rings and alerts of trials, and the nodes and slots that these have.
+/// The rings and alerts of trials, and the candidates and key places that these have.
 #[derive(Drop)]
 pub(crate) struct Setting {
     rule: Rule,
     rings: Rings,
     edges: Vec<Edge>,
-    nodes: Nodes,
-    slots: Slots,
+    candidates: Candidates,
+    key_places: KeyPlaces,
     ghost layout: { IsLayout rings },
     ghost within: { rule.k ≤ length rings.positions },
-    ghost nodes_are: { AreNodesOf rings (rule_in rule) edges.items nodes } by { Prim.hlevel props },
+    ghost candidates_are: { AreCandidatesOf rings (rule_in rule) edges.items candidates } by { Prim.hlevel props },
     ghost inside: { (n : ℕ) → rings.nodes ≤ n → IsTrue (are_edges_of rule.k n edges.items) },
     ghost distinct: { IsTrue (are_distinct rule.k edges.items) },
     ghost few: { length edges.items ≤ 2 ^ 16 },
-    ghost slots_are: { AreSlots rule.k slots.blocks.items edges.items slots.slots.items } by { Prim.hlevel props },
-    ghost blocks: { All (λ block. block < 2 ^ 13) slots.blocks.items },
+    ghost key_places_are: { AreKeyPlaces rule.k key_places.blocks.items edges.items key_places.key_places.items }
+        by { Prim.hlevel props },
+    ghost blocks: { All (λ block. block < 2 ^ 13) key_places.blocks.items },
 }
 
-/// A trial of this number, with the slots of all its alerts.
+/// A trial of this number, with the key places of all its alerts.
 #[derive(Clone, Copy)]
 pub(crate) struct Scene<'a> {
     pub number: u32,
     pub trial: Trial<'a>,
-    pub slots: &'a Slots,
+    pub key_places: &'a KeyPlaces,
     ghost inside: { (n : ℕ) → trial.rings.now.nodes ≤ n → IsTrue (are_edges_of trial.rule.k n trial.edges.now) },
     ghost distinct: { IsTrue (are_distinct trial.rule.k trial.edges.now) },
     ghost few: { length trial.edges.now ≤ 2 ^ 16 },
-    ghost slots_are: { AreSlots trial.rule.k slots.now.blocks.items trial.edges.now slots.now.slots.items } by { Prim.hlevel props },
-    ghost blocks: { All (λ block. block < 2 ^ 13) slots.now.blocks.items },
+    ghost key_places_are: { AreKeyPlaces trial.rule.k key_places.now.blocks.items trial.edges.now
+        key_places.now.key_places.items } by { Prim.hlevel props },
+    ghost blocks: { All (λ block. block < 2 ^ 13) key_places.now.blocks.items },
 }
 
 impl Setting {
@@ -78,10 +80,10 @@ impl Setting {
         assert!(rt; rings.len() == rule.k && rings.nodes() == roles.nodes());
         let edges = alerts(alloc, &rings, rule.k, roles)?;
         assert!(rt; edges.len() <= 1000 && rings.nodes() <= 2048);
-        let nodes = Nodes::of(alloc, &rings, rule, &edges)?;
+        let candidates = Candidates::of(alloc, &rings, rule, &edges)?;
         Ok(Setting {
-            slots: Slots::after(alloc, &nodes.blocks, rule.k, &edges)?,
-            nodes,
+            key_places: KeyPlaces::after(alloc, &candidates.blocks, rule.k, &edges)?,
+            candidates,
             rule,
             rings,
             edges,
@@ -101,9 +103,9 @@ impl Setting {
                 edges: &self.edges,
                 copies,
                 blocks,
-                nodes: &self.nodes,
+                candidates: &self.candidates,
             },
-            slots: &self.slots,
+            key_places: &self.key_places,
         }
     }
 }

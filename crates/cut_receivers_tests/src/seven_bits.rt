@@ -1,4 +1,4 @@
-//! Images of seven bits, so that many are equal: if a lane is not in doubt, what has ended by its closing time is what
+//! Images of seven bits, so that many are equal: if a lane is not in doubt, what has ended by its proposal time is what
 //! the detector proposes when the same alerts come in the order of their whole keys.
 ghost use Rattle.std.specs.Prelude.{ℕ, ◌<◌, ◌≤◌, slice_index, All, IfOk};
 ghost use Rattle.cut_blocks.specs.Images.{never};
@@ -8,7 +8,7 @@ use crate::drawn::drawn_rings;
 use crate::edges::all_within;
 use cut_blocks::NEVER;
 use cut_detector::{Proposal, Rule, replay};
-use cut_lanes::{Closing, close, select};
+use cut_lanes::{ProposalTime, compute_proposal_time, select};
 use cut_rings::{Edge, Rings};
 use rand_chacha::ChaCha8Rng;
 use rand_core::SeedableRng;
@@ -102,25 +102,25 @@ fn images_of(alloc: Global, alerts: &[Alert], subject: u16) -> Result<Vec<u32x4>
 }
 
 /// From when on each subject is reported and stable, and when that closes.
-fn closing_of(
+fn proposal_time_of(
     rt: &impl Abort,
     alloc: Global,
     alerts: &[Alert],
     rule: Rule,
-) -> Result<(Vec<u32x4>, Closing), Fail> {
+) -> Result<(Vec<u32x4>, ProposalTime), Fail> {
     let (low, high) = (u32::from(rule.l), u32::from(rule.h));
-    let mut lows: Vec<u32x4> = Vec::new(alloc);
-    let mut highs = Vec::new(alloc);
+    let mut reported_at: Vec<u32x4> = Vec::new(alloc);
+    let mut stable_at = Vec::new(alloc);
     for subject in 0..PROCESSES {
         let images = images_of(alloc, alerts, subject)?;
         assert!(rt; images.len() <= 64 && 1 <= low && low <= high);
         let (least, most) = select(&images, low, high);
-        lows.push(times_of(least.to_array()))?;
-        highs.push(most)?;
+        reported_at.push(times_of(least.to_array()))?;
+        stable_at.push(most)?;
     }
-    assert!(rt; lows.len() == highs.len() && !lows.is_empty());
-    let closing = close(&lows, &highs);
-    Ok((highs, closing))
+    assert!(rt; reported_at.len() == stable_at.len() && !reported_at.is_empty());
+    let proposal_time = compute_proposal_time(&reported_at, &stable_at);
+    Ok((stable_at, proposal_time))
 }
 
 /// The alerted edges in the order in which a receiver hears of them, by whole keys.
@@ -150,19 +150,19 @@ fn replayed(
     Ok(replay(alloc, rings, k, h, l, implicit, edges)?)
 }
 
-/// The subjects that have ended in a lane by its closing time, if that comes.
+/// The subjects that have ended in a lane by its proposal time, if that comes.
 fn ended(
     alloc: Global,
-    highs: &[u32x4],
-    closing: &Closing,
+    stable_at: &[u32x4],
+    proposal_time: &ProposalTime,
     lane: usize,
 ) -> Result<Option<Vec<u16>>, AllocError> {
-    let time = closing.time.to_array()[lane % 4];
+    let time = proposal_time.time.to_array()[lane % 4];
     if time >= NEVER {
         return Ok(None);
     }
     let mut subjects = Vec::new(alloc);
-    for (subject, high) in (0..PROCESSES).zip(highs) {
+    for (subject, high) in (0..PROCESSES).zip(stable_at) {
         if high.to_array()[lane % 4] <= time {
             subjects.push(subject)?;
         }
@@ -185,8 +185,8 @@ struct Drawn {
     rule: Rule,
     rings: Rings,
     alerts: Vec<Alert>,
-    highs: Vec<u32x4>,
-    closing: Closing,
+    stable_at: Vec<u32x4>,
+    proposal_time: ProposalTime,
 }
 
 /// Draws rings and alerts.
@@ -198,13 +198,13 @@ fn drawn_lanes(
 ) -> Result<Drawn, Fail> {
     let rings = drawn_rings(alloc, words, PROCESSES, rule.k)?;
     let alerts = drawn_alerts(alloc, words, rule.k)?;
-    let (highs, closing) = closing_of(rt, alloc, &alerts, rule)?;
+    let (stable_at, proposal_time) = proposal_time_of(rt, alloc, &alerts, rule)?;
     Ok(Drawn {
         rule,
         rings,
         alerts,
-        highs,
-        closing,
+        stable_at,
+        proposal_time,
     })
 }
 
@@ -212,7 +212,7 @@ fn drawn_lanes(
 fn proposes(rt: &impl Abort, alloc: Global, drawn: &Drawn, lane: usize) -> Result<bool, Fail> {
     let edges = heard(alloc, &drawn.alerts, lane)?;
     let proposal = replayed(rt, alloc, &drawn.rings, drawn.rule, &edges)?;
-    let members = ended(alloc, &drawn.highs, &drawn.closing, lane)?;
+    let members = ended(alloc, &drawn.stable_at, &drawn.proposal_time, lane)?;
     assert!(rt; is_same(&members, &proposal));
     Ok(members.is_some())
 }
@@ -225,7 +225,7 @@ fn check_alerts(
     tally: &mut Counts,
 ) -> Result<(), Fail> {
     for lane in 0..4 {
-        if drawn.closing.doubt >> lane & 1 == 1 {
+        if drawn.proposal_time.doubt >> lane & 1 == 1 {
             tally.doubts = tally.doubts.saturating_add(1);
         } else if proposes(rt, alloc, drawn, lane)? {
             tally.proposals = tally.proposals.saturating_add(1);

@@ -10,7 +10,7 @@ use cut_blocks::Blocks;
 use cut_detector::Rule;
 use cut_draws::Draws;
 use cut_plan::Dead;
-use cut_receivers::{Finding, Receivers};
+use cut_receivers::{LaneVerdict, Receivers};
 use cut_rings::Rings;
 use std::alloc::{AllocError, Global};
 use std::process::Abort;
@@ -36,7 +36,7 @@ const ORDERS: [[u16; 6]; 4] = [
 /// What is found of a receiver, and the place at which the detector proposes.
 #[derive(Clone, Copy, PartialEq, Eq)]
 struct Found {
-    finding: Finding,
+    lane_verdict: LaneVerdict,
     place: u32,
     is_doubtful: bool,
     settled: Option<u64>,
@@ -68,19 +68,19 @@ fn found_of_receiver(
 ) -> Result<Option<Found>, AllocError>
     requires { receiver < 2048 }
 {
-    if scene.trial.nodes.nodes.len() != 2 {
+    if scene.trial.candidates.candidates.len() != 2 {
         return Ok(None);
     }
     let mut heard = Receivers::new(alloc);
     let places = places_of(&mut heard, scene, [0, receiver, 1, 2])?;
-    if heard.highs.len() != 2 {
+    if heard.stable_at.len() != 2 {
         return Ok(None);
     }
-    let findings = heard.judge(&[true, false]);
+    let lane_verdicts = heard.judge(&[true, false]);
     let mut draws = Draws::new(SEED, scene.number);
     let proposal = replayed(alloc, scene, &mut draws, receiver)?;
     Ok(Some(Found {
-        finding: findings.at(1),
+        lane_verdict: lane_verdicts.at(1),
         place: places.at(1),
         is_doubtful: places.is_doubtful(1),
         settled: proposal.map(|proposal| proposal.at),
@@ -88,21 +88,21 @@ fn found_of_receiver(
 }
 
 /// Trials and receivers, what is found of each, the place that its lane says, and that at which the detector proposes.
-const TIES: [(u32, u16, Finding, u32, Option<u64>); 3] = [
-    (46_712, 1304, Finding::Wanted, 8, Some(7)),
-    (20_030, 1307, Finding::Wanted, 6, Some(6)),
-    (133_101, 1699, Finding::Doubtful, 21, None),
+const TIES: [(u32, u16, LaneVerdict, u32, Option<u64>); 3] = [
+    (46_712, 1304, LaneVerdict::Wanted, 8, Some(7)),
+    (20_030, 1307, LaneVerdict::Wanted, 6, Some(6)),
+    (133_101, 1699, LaneVerdict::Doubtful, 21, None),
 ];
 
 #[test]
 fn equal_images_are_in_doubt(rt: HostRuntime) -> Result<(), Fail> {
     let setting = setting(&rt, rt.alloc())?;
-    for (number, receiver, finding, place, settled) in TIES {
+    for (number, receiver, lane_verdict, place, settled) in TIES {
         let blocks = Blocks::new(SEED, number);
         let scene = setting.scene(&blocks, number, COPIES);
         let found = found_of_receiver(rt.alloc(), scene, receiver % 2048)?;
         let wanted = Found {
-            finding,
+            lane_verdict,
             place,
             is_doubtful: true,
             settled,

@@ -91,13 +91,13 @@ where
     };
     let (listener, finished) = run_threads(&site, listener, passes, capacity.workers);
     match finished {
-        Ok(passes) => (listener, closed(alloc, hall, passes)),
+        Ok(passes) => (listener, close_hall(alloc, hall, passes)),
         Err(fault) => (listener, Err(fault)),
     }
 }
 
 /// Closes a hall with all its passes.
-fn closed<D, M, K>(
+fn close_hall<D, M, K>(
     alloc: Global,
     hall: Hall<D, M, K>,
     passes: Vec<Pass<M>>,

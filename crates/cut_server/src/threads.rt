@@ -183,7 +183,7 @@ where
             let finished = run_in_scope(scope, site, &mut listener, passes, workers);
             site.hall.end_work(rt);
             match finished {
-                Ok(finished) => (listener, gathered(rt, finished)),
+                Ok(finished) => (listener, join_workers(rt, finished)),
                 Err(fault) => (listener, Err(fault)),
             }
         },
@@ -355,7 +355,7 @@ where
 }
 
 /// All passes, once the workers have ended.
-fn gathered<M, R>(rt: &R, finished: EndedThreads<M>) -> Result<Vec<Pass<M>>, CliFault>
+fn join_workers<M, R>(rt: &R, finished: EndedThreads<M>) -> Result<Vec<Pass<M>>, CliFault>
 where
     M: CallLedger,
     R: Threads,

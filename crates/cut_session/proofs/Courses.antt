@@ -21,7 +21,8 @@ use Rattle.cut_session.specs.FaultCode.{code_of_session}
 use Rattle.cut_messages.specs.Frames.{fault_at}
 use Rattle.cut_messages.specs.Reading.{Reading, HasReadFrames, end_of}
 use Rattle.cut_session.specs.Answering.{Rises, error_frame}
-use Rattle.cut_session.specs.Session.{request_limit, Course, IsCourse, IsDue, passed, with_end, ended, read_by}
+use Rattle.cut_session.specs.Session.{request_limit, SessionTrace, IsSessionTrace, IsDue, passed, with_end, ended}
+use Rattle.cut_session.specs.Session.{read_by}
 use Rattle.cut_session.specs.Session.{EndsSessionAs, EndsSession}
 use Rattle.cut_session.specs.inside.Serving.{LeavesSending, IsServing, ConcludesTable, conveyed, served, longest_reply}
 
@@ -48,15 +49,15 @@ read_by_more fault l bytes = refl
 
 -- ---- a fault ends it
 
--- a line over which a course was served, at which a fault is due
-pub record Stands (first : Sending) (fault : SessionFault) (c : Course) (mid : Sending) : Type 0 where
+-- a counting writer by which a course was served, at which a fault is due
+pub record Stands (first : Sending) (fault : SessionFault) (c : SessionTrace) (mid : Sending) : Type 0 where
   pub wire : mid.wire ≡ first.wire
   pub log : mid.log ≡ read_by fault (passed c c.out first.log)
   pub sent : mid.sent ≡ length c.out
   pub short : length c.out ≤ longest_reply * 1000000
 
-module _ {hall : HallValue} {low high : View} {c : Course} {fault : SessionFault} {first mid : Sending}
-    (is : IsCourse hall low high c) (due : IsDue fault c) (stands : Stands first fault c mid) where
+module _ {hall : HallValue} {low high : View} {c : SessionTrace} {fault : SessionFault} {first mid : Sending}
+    (is : IsSessionTrace hall low high c) (due : IsDue fault c) (stands : Stands first fault c mid) where
   passed_more : (bytes : List ℕ) → wrote mid.log bytes ≡ read_by fault (passed c (c.out ++ bytes) first.log)
   passed_more bytes =
       let same = read_by_more fault (passed c c.out first.log) bytes in
@@ -98,7 +99,7 @@ some_held (b ∷ held) e ends none = cc
 
 -- the course so far, with what a read gave that is not read yet
 abbrev pub course_of : {hall : HallValue} {low high : View} {r : Reading} {requests : ℕ} {piece : List ℕ}
-    {first now : Sending} → List ℕ → IsServing hall low high r requests piece first now → Course
+    {first now : Sending} → List ℕ → IsServing hall low high r requests piece first now → SessionTrace
 course_of last s = record {
   stream = s.stream;
   answered = s.messages;
@@ -111,7 +112,7 @@ course_of last s = record {
 module _ {hall : HallValue} {low high : View} {r : Reading} {requests : ℕ} {piece : List ℕ} {first now : Sending}
     (s : IsServing hall low high r requests piece first now) (few : requests ≤ request_limit)
     (none_sent : first.sent ≡ 0) where
-  pub is_course : (last : List ℕ) → IsCourse hall low high (course_of last s)
+  pub is_course : (last : List ℕ) → IsSessionTrace hall low high (course_of last s)
   is_course last = record {
     splits = rw append-nil (rw s.side at s.read.splits);
     few = omega (arith, few, s.many);
@@ -213,7 +214,7 @@ module _ {hall : HallValue} {low high : View} {r : Reading} {requests : ℕ} {fi
       (stands_at s few none_sent session.Read [] new (ap (λ (t : Sending). t.wire) is) (ap (λ (t : Sending). t.sent) is)
       (ap (λ (t : Sending). t.log) is ∙ ap (λ (t : Sending). read_failed t.log) s.line)) result last l
 
--- ---- once the line and the session are given up
+-- ---- once the writer and the session are given up
 
 pub concludes_at : {X : Type 0} (log : X → WireLog) (hall : HallValue) (low high : View) (end : SessionEnd)
     (first last after : X) (name other : GName) (sent : ℕ) (old : Sending)

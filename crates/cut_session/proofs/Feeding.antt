@@ -19,7 +19,8 @@ use Rattle.cut_session.specs.declared.session_end.SessionEnd.TheVariants as end
 use Rattle.cut_session.specs.declared.session_end.SessionFault.{SessionFault}
 use Rattle.cut_session.specs.declared.session_end.SessionFault.TheVariants as session
 use Rattle.cut_session.specs.Answering.{AnswersAll}
-use Rattle.cut_session.specs.Session.{request_limit, Course, IsCourse, LastReply, QuitsAtOnce, IsDue, passed, read_by}
+use Rattle.cut_session.specs.Session.{request_limit, SessionTrace, IsSessionTrace, LastReply, QuitsAtOnce, IsDue}
+use Rattle.cut_session.specs.Session.{passed, read_by}
 use Rattle.cut_session.specs.Session.{CutsReply, EndsSessionAs}
 use Rattle.cut_session.specs.inside.Serving.{Replies, ServesFirst, ServesAll, LeavesSending, ConcludesTable, IsServing, served}
 use Rattle.cut_session.specs.inside.Serving.{longest_reply}
@@ -45,7 +46,7 @@ module _ {hall : HallValue} {low middle : View} {r next : Reading} {requests : ‚
 
   module _ (f : ServesFirst hall middle high (take count shown)) where
     -- its course
-    abbrev fed_course : Course
+    abbrev fed_course : SessionTrace
     fed_course = record {
       stream = s.stream ++ piece;
       answered = s.messages ++ f.answered;
@@ -65,7 +66,7 @@ module _ {hall : HallValue} {low middle : View} {r next : Reading} {requests : ‚
         let parts = ap (Œª (l : List Message). length l) f.parts in
         omega (arith, length-take-le count shown within, length-append f.answered f.unanswered)
 
-    is_fed_course : IsCourse hall low high fed_course
+    is_fed_course : IsSessionTrace hall low high fed_course
     is_fed_course = record {
       splits = rw (‚Üê fed_parts) (rw (side ‚àô s.side) at read.splits);
       few = omega (arith, fed_count, s.many, length-append s.messages f.answered);

@@ -23,7 +23,7 @@ request_limit = MOST_REQUESTS
 
 -- what a session has read and replied: a stream, its messages, of which the first ones are answered, and the
 -- bytes after them; what the last read gave and no reader took; and the replies
-pub record Course : Type 0 where
+pub record SessionTrace : Type 0 where
   pub stream : List ℕ
   pub answered : List Message
   pub unanswered : List Message
@@ -33,13 +33,13 @@ pub record Course : Type 0 where
 
 -- the messages are those of the stream, no more are answered than may be, and the replies are some that a hall may
 -- give, if the session had seen low at its begin and has seen high
-pub record IsCourse (hall : HallValue) (low high : View) (c : Course) : Type 0 where
+pub record IsSessionTrace (hall : HallValue) (low high : View) (c : SessionTrace) : Type 0 where
   pub splits : Splits Requests c.stream (c.answered ++ c.unanswered) c.rest
   pub few : length c.answered ≤ request_limit
   pub replies : AnswersAll hall low high c.answered c.out
 
 -- every message is answered, and every byte that was given was read
-abbrev pub IsAnswered : Course → Type 0
+abbrev pub IsAnswered : SessionTrace → Type 0
 IsAnswered c = (c.unanswered ≡ []) × (c.last ≡ [])
 
 -- the first of some messages quits
@@ -49,7 +49,7 @@ QuitsAtOnce (m ∷ ms) = m.kind ≡ kind.Quit
 
 -- a fault ends the session: memory ran out for what the last read gave; or the input cannot go on, or
 -- goes on no further, after the messages that are answered; or there are more messages than may be answered
-abbrev pub IsDue : SessionFault → Course → Type 0
+abbrev pub IsDue : SessionFault → SessionTrace → Type 0
 IsDue session.Memory c =
     (c.unanswered ≡ []) × (0 < length c.last) × (length c.last ≤ READ_SIZE) × (fault_at Requests c.rest ≡ None)
 IsDue session.Read c = IsAnswered c × (fault_at Requests c.rest ≡ None)
@@ -61,15 +61,15 @@ IsDue (session.Stream fault) c = IsAnswered c × (fault_at Requests c.rest ≡ S
 -- ---- what passed over the wire
 
 -- the replies with the frame of the fault that ended the session
-abbrev pub replies_to : SessionFault → Course → List ℕ
+abbrev pub replies_to : SessionFault → SessionTrace → List ℕ
 replies_to fault c = c.out ++ error_frame (code_of_session fault)
 
 -- a wire that gave what the session read, and took these bytes
-abbrev pub gave_and_took : Course → List ℕ → Traffic → Traffic
+abbrev pub gave_and_took : SessionTrace → List ℕ → Traffic → Traffic
 gave_and_took c taken t =
     record { taken = t.taken ++ taken; given = t.given ++ (c.stream ++ c.last); ends = t.ends }
 
-abbrev pub passed : Course → List ℕ → WireLog → WireLog
+abbrev pub passed : SessionTrace → List ℕ → WireLog → WireLog
 passed c taken l = passing (gave_and_took c taken) l
 
 -- and whose last read gave the end of the input
@@ -98,13 +98,13 @@ pub record LastReply (hall : HallValue) (low high : View) (answered : List Messa
   pub joined : out ≡ first ++ reply
 
 -- a write failed of the last reply: those before it were sent whole, and it was not
-abbrev pub CutsReply : HallValue → View → View → ℕ → Course → WireLog → WireLog → Type 0
+abbrev pub CutsReply : HallValue → View → View → ℕ → SessionTrace → WireLog → WireLog → Type 0
 CutsReply hall low high sent c old new =
     (l : LastReply hall low high c.answered c.out) × (length l.first ≤ sent) × (sent < length c.out) × (c.last ≡ [])
     × (new ≡ write_failed (passed c (take sent c.out) old))
 
 -- a write of the frame failed that has the fault which ended the session
-abbrev pub CutsEnd : ℕ → Course → WireLog → WireLog → Type 0
+abbrev pub CutsEnd : ℕ → SessionTrace → WireLog → WireLog → Type 0
 CutsEnd sent c old new =
     (fault : SessionFault) × IsDue fault c × (length c.out ≤ sent) × (sent < length (replies_to fault c))
     × (new ≡ write_failed (read_by fault (passed c (take sent (replies_to fault c)) old)))
@@ -112,7 +112,7 @@ CutsEnd sent c old new =
 -- how a session ends, what its wire took and gave, and which calls failed: all replies to the messages before one that
 -- quits; all replies, if the input ended after them; the replies and the fault's frame; or exactly as many of the first
 -- bytes of these as are reported, if a write failed
-abbrev pub EndsSessionAs : HallValue → View → View → SessionEnd → Course → WireLog → WireLog → Type 0
+abbrev pub EndsSessionAs : HallValue → View → View → SessionEnd → SessionTrace → WireLog → WireLog → Type 0
 EndsSessionAs hall low high Quit c old new =
     QuitsAtOnce c.unanswered × (length c.answered < request_limit) × (c.last ≡ []) × (new ≡ passed c c.out old)
 EndsSessionAs hall low high EndOfInput c old new =
@@ -124,5 +124,5 @@ EndsSessionAs hall low high (Write fault) c old new =
 
 -- of a wire of which nothing is known there is some course of which this is so
 abbrev pub EndsSession : HallValue → View → View → SessionEnd → WireLog → WireLog → Type 0
-EndsSession hall low high end old new = (c : Course) × IsCourse hall low high c
+EndsSession hall low high end old new = (c : SessionTrace) × IsSessionTrace hall low high c
     × EndsSessionAs hall low high end c old new

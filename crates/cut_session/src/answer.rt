@@ -14,7 +14,7 @@ use cut_faults::FaultCode;
 use cut_hall::{CallLedger, Hall, Pass};
 use cut_messages::{Kind, Message, send_message};
 use cut_plan::{Plan, PlanFault};
-use cut_wires::{Line, Sent, Wire};
+use cut_wires::{CountingWriter, Sent, Wire};
 use std::alloc::Global;
 use std::sync::Wait;
 
@@ -50,16 +50,16 @@ where
     /// Answers requests in order. Fails if the session ends: at one that quits, or if a write of a reply fails.
     pub(crate) fn answer_all<W: Wire>(
         &mut self,
-        line: &mut Line<'_, W>,
+        writer: &mut CountingWriter<'_, W>,
         messages: &[Message],
     ) -> Result<(), SessionEnd>
         ensures serves { ServesAll self.old.hall.now self.old.pass.now.view self.new.pass.now.view messages.now
-            result (sending W.log line.old) (sending W.log line.new) }
+            result (sending W.log writer.old) (sending W.log writer.new) }
         ensures stays { (self.new.hall.now ≡ self.old.hall.now)
             × (self.new.pass.ghost_name ≡ self.old.pass.ghost_name) }
     {
         for message in messages {
-            match self.answer(line, message) {
+            match self.answer(writer, message) {
                 Ok(Continuation::On) => {}
                 Ok(Continuation::Over) => return Err(SessionEnd::Quit),
                 Err(fault) => return Err(SessionEnd::Write(fault)),
@@ -71,21 +71,21 @@ where
     /// Answers one request.
     fn answer<W: Wire>(
         &mut self,
-        line: &mut Line<'_, W>,
+        writer: &mut CountingWriter<'_, W>,
         message: &Message,
     ) -> Result<Continuation, Sent>
         ensures serves { Serves self.old.hall.now self.old.pass.now.view self.new.pass.now.view message.now
-            result (sending W.log line.old) (sending W.log line.new) }
+            result (sending W.log writer.old) (sending W.log writer.new) }
         ensures stays { (self.new.hall.now ≡ self.old.hall.now)
             × (self.new.pass.ghost_name ≡ self.old.pass.ghost_name) }
     {
         let payload = message.payload.as_slice();
         match message.kind {
-            Kind::Submit => match self.answer_submit(line, payload) {
+            Kind::Submit => match self.answer_submit(writer, payload) {
                 Ok(()) => Ok(Continuation::On),
                 Err(fault) => Err(fault),
             },
-            Kind::Count => match self.answer_count(line, payload) {
+            Kind::Count => match self.answer_count(writer, payload) {
                 Ok(()) => Ok(Continuation::On),
                 Err(fault) => Err(fault),
             },
@@ -95,32 +95,33 @@ where
     }
 
     /// Answers the question how many trials of a study are counted.
-    fn answer_count<W: Wire>(&mut self, line: &mut Line<'_, W>, payload: &[u8]) -> Result<(), Sent>
+    fn answer_count<W: Wire>(&mut self, writer: &mut CountingWriter<'_, W>, payload: &[u8]) -> Result<(), Sent>
         ensures replies { Replies (AnswersCount self.old.hall.now self.old.pass.now.view self.new.pass.now.view
-            (from_be_bytes w32 payload.now)) longest_reply result (sending W.log line.old) (sending W.log line.new) }
+            (from_be_bytes w32 payload.now)) longest_reply result (sending W.log writer.old)
+            (sending W.log writer.new) }
         ensures rises { Rises self.old.pass.now.view self.new.pass.now.view }
         ensures stays { (self.new.hall.now ≡ self.old.hall.now)
             × (self.new.pass.ghost_name ≡ self.old.pass.ghost_name) }
     {
         reads_are_seen();
-        match self.hall.counted(self.pass, number_in(payload)) {
-            Ok(count) => send_message(line, Kind::Count, &count.to_be_bytes()),
-            Err(fault) => send_fault(line, fault.code()),
+        match self.hall.counted(self.pass, read_study_number(payload)) {
+            Ok(count) => send_message(writer, Kind::Count, &count.to_be_bytes()),
+            Err(fault) => send_fault(writer, fault.code()),
         }
     }
 
     /// Answers the text of a plan: by the table of its study as it is done, or by a fault.
-    fn answer_submit<W: Wire>(&mut self, line: &mut Line<'_, W>, text: &[u8]) -> Result<(), Sent>
+    fn answer_submit<W: Wire>(&mut self, writer: &mut CountingWriter<'_, W>, text: &[u8]) -> Result<(), Sent>
         ensures replies { Replies (AnswersText self.old.hall.now.is_trusted text.now) longest_reply result
-            (sending W.log line.old) (sending W.log line.new) }
+            (sending W.log writer.old) (sending W.log writer.new) }
         ensures view { self.new.pass.now.view ≡ self.old.pass.now.view }
         ensures stays { (self.new.hall.now ≡ self.old.hall.now)
             × (self.new.pass.ghost_name ≡ self.old.pass.ghost_name) }
     {
         let plan = match Plan::from_json(self.alloc, text) {
             Ok(plan) => plan,
-            Err(PlanFault::Memory) => return send_fault(line, FaultCode::WorkMemory),
-            Err(PlanFault::Refused(refusal)) => return send_fault(line, refusal.code()),
+            Err(PlanFault::Memory) => return send_fault(writer, FaultCode::WorkMemory),
+            Err(PlanFault::Refused(refusal)) => return send_fault(writer, refusal.code()),
         };
         let (rt, alloc, hall) = (self.rt, self.alloc, self.hall);
         match hall.submit(rt, alloc, self.pass, plan, self.shelf) {
@@ -132,15 +133,15 @@ where
                     pass: &mut *self.pass,
                     opened: &opened,
                 };
-                send_table(&mut rows, line)
+                send_table(&mut rows, writer)
             }
-            Err(fault) => send_fault(line, fault.code()),
+            Err(fault) => send_fault(writer, fault.code()),
         }
     }
 }
 
 /// The number that stands in the first four bytes.
-fn number_in(bytes: &[u8]) -> u32
+fn read_study_number(bytes: &[u8]) -> u32
     ensures { result ≡ from_be_bytes w32 bytes.now }
 {
     u32::from_be_bytes([

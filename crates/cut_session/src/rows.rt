@@ -13,9 +13,9 @@ use cut_book::Opened;
 use cut_disks::Disk;
 use cut_hall::{CallLedger, Hall, NextRowFault, Pass};
 use cut_lines::header;
-use cut_messages::{Kind, RowMessages, send_message};
+use cut_messages::{Kind, FramedRows, send_message};
 use cut_plan::plans_are_accepted;
-use cut_wires::{Line, Rows, RowsFault, Sent, Wire, send_rows};
+use cut_wires::{CountingWriter, RowSource, RowsFault, Sent, Wire, send_rows};
 use std::alloc::Global;
 use std::sync::Wait;
 
@@ -57,7 +57,7 @@ where
     }
 }
 
-impl<D, M, K, R> Rows for OpenedRows<'_, D, M, K, R>
+impl<D, M, K, R> RowSource for OpenedRows<'_, D, M, K, R>
 where
     D: Disk + Drop,
     M: CallLedger,
@@ -97,7 +97,7 @@ where
 /// Sends the table of an opened study, up to a line that doesn't come.
 pub(crate) fn send_table<D, M, K, W, R>(
     rows: &mut OpenedRows<'_, D, M, K, R>,
-    line: &mut Line<'_, W>,
+    writer: &mut CountingWriter<'_, W>,
 ) -> Result<(), Sent>
 where
     D: Disk + Drop,
@@ -107,26 +107,26 @@ where
     R: Wait,
     requires { MayBegin rows.old.hall.now.is_trusted rows.old.opened.now.plan rows.old.opened.now.base }
     ensures replies { Replies (IsSubmissionAnswered rows.old.hall.now.is_trusted rows.old.opened.now.plan) longest_reply
-        result (sending W.log line.old) (sending W.log line.new) }
+        result (sending W.log writer.old) (sending W.log writer.new) }
     ensures stays { (rows.new.pass.ghost_name ≡ rows.old.pass.ghost_name)
         × (rows.new.pass.now.hall ≡ rows.old.pass.now.hall)
         × (rows.new.pass.now.view ≡ rows.old.pass.now.view) }
 {
     plans_are_accepted(&rows.opened.plan);
-    let sent = send_rows::<RowMessages, OpenedRows<'_, D, M, K, R>, W>(rows, line);
-    end_table(line, sent)
+    let sent = send_rows::<FramedRows, OpenedRows<'_, D, M, K, R>, W>(rows, writer);
+    end_table(writer, sent)
 }
 
 /// Sends what comes after the rows of a table that were sent: that it is whole, or why it is not.
 fn end_table<W: Wire>(
-    line: &mut Line<'_, W>,
+    writer: &mut CountingWriter<'_, W>,
     sent: Result<(), RowsFault<NextRowFault>>,
 ) -> Result<(), Sent>
-    ensures { EndsTable sent result (sending W.log line.old) (sending W.log line.new) }
+    ensures { EndsTable sent result (sending W.log writer.old) (sending W.log writer.new) }
 {
     match sent {
-        Ok(()) => send_message(line, Kind::Done, &[]),
+        Ok(()) => send_message(writer, Kind::Done, &[]),
         Err(RowsFault::Write(fault)) => Err(fault),
-        Err(RowsFault::Row(fault)) => send_fault(line, fault.code()),
+        Err(RowsFault::Row(fault)) => send_fault(writer, fault.code()),
     }
 }

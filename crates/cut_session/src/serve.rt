@@ -11,7 +11,7 @@ use cut_book::Shelf;
 use cut_disks::Disk;
 use cut_hall::{CallLedger, Hall, Pass};
 use cut_messages::Reader;
-use cut_wires::{Line, Wire};
+use cut_wires::{CountingWriter, Wire};
 use std::alloc::Global;
 use std::sync::Wait;
 
@@ -73,14 +73,14 @@ where
         ensures stays { (self.new.hall.now ≡ self.old.hall.now)
             × (self.new.pass.ghost_name ≡ self.old.pass.ghost_name) }
     {
-        self.serve(&mut Line::new(wire))
+        self.serve(&mut CountingWriter::new(wire))
     }
 
-    /// Serves a client over a line, over which nothing was sent yet.
-    fn serve<W: Wire>(&mut self, line: &mut Line<'_, W>) -> SessionEnd
-        requires { (sending W.log line.old).sent ≡ 0 }
+    /// Serves a client by a counting writer, which has sent nothing yet.
+    fn serve<W: Wire>(&mut self, writer: &mut CountingWriter<'_, W>) -> SessionEnd
+        requires { (sending W.log writer.old).sent ≡ 0 }
         ensures ends { ConcludesTable self.old.hall.now self.old.pass.now.view self.new.pass.now.view result
-            (sending W.log line.old) (sending W.log line.new) }
+            (sending W.log writer.old) (sending W.log writer.new) }
         ensures stays { (self.new.hall.now ≡ self.old.hall.now)
             × (self.new.pass.ghost_name ≡ self.old.pass.ghost_name) }
     {
@@ -88,7 +88,7 @@ where
         let mut requests = 0;
         let mut buffer = [0; READ_SIZE];
         for _ in self.rt.forever() {
-            match self.take_next(line, &mut reader, &mut buffer, requests) {
+            match self.take_next(writer, &mut reader, &mut buffer, requests) {
                 Ok(more) => requests = more,
                 Err(end) => return end,
             }
@@ -100,7 +100,7 @@ where
     /// then.
     fn take_next<W: Wire>(
         &mut self,
-        line: &mut Line<'_, W>,
+        writer: &mut CountingWriter<'_, W>,
         reader: &mut Reader,
         buffer: &mut [u8; READ_SIZE],
         requests: u32,
@@ -108,31 +108,31 @@ where
         requires few { requests ≤ MOST_REQUESTS }
         ensures goes { (low : View) (first : Sending) → first.sent ≡ 0 →
             (s : IsServing self.old.hall.now low self.old.pass.now.view reader.old requests []
-            first (sending W.log line.old)) →
+            first (sending W.log writer.old)) →
             Goes self.old.hall.now low self.new.pass.now.view s.stream result reader.new
-            first (sending W.log line.new) }
+            first (sending W.log writer.new) }
         ensures few { IfOk result (λ more. more ≤ MOST_REQUESTS) }
         ensures stays { (self.new.hall.now ≡ self.old.hall.now)
             × (self.new.pass.ghost_name ≡ self.old.pass.ghost_name) }
     {
-        let count = match line.read(buffer) {
+        let count = match writer.read(buffer) {
             Ok(count) => count,
-            Err(_) => return Err(leave(line, SessionFault::Read)),
+            Err(_) => return Err(leave(writer, SessionFault::Read)),
         };
         if count == 0 {
             match reader.finish() {
                 Ok(()) => return Err(SessionEnd::EndOfInput),
-                Err(_) => return Err(leave(line, SessionFault::Truncated)),
+                Err(_) => return Err(leave(writer, SessionFault::Truncated)),
             }
         }
-        self.take_piece(line, reader, &buffer[..count], requests)
+        self.take_piece(writer, reader, &buffer[..count], requests)
     }
 
     /// Reads the next piece of the input, and answers the requests that it completes. Returns how many requests are
     /// answered then.
     fn take_piece<W: Wire>(
         &mut self,
-        line: &mut Line<'_, W>,
+        writer: &mut CountingWriter<'_, W>,
         reader: &mut Reader,
         piece: &[u8],
         requests: u32,
@@ -141,38 +141,38 @@ where
         requires piece { (0 < length piece.now) × (length piece.now ≤ READ_SIZE) }
         ensures goes { (low : View) (first : Sending) → first.sent ≡ 0 →
             (s : IsServing self.old.hall.now low self.old.pass.now.view reader.old requests piece.now
-            first (sending W.log line.old)) →
+            first (sending W.log writer.old)) →
             Goes self.old.hall.now low self.new.pass.now.view s.stream result reader.new
-            first (sending W.log line.new) }
+            first (sending W.log writer.new) }
         ensures few { IfOk result (λ more. more ≤ MOST_REQUESTS) }
         ensures stays { (self.new.hall.now ≡ self.old.hall.now)
             × (self.new.pass.ghost_name ≡ self.old.pass.ghost_name) }
     {
         let fed = match reader.feed(self.alloc, piece) {
             Ok(fed) => fed,
-            Err(_) => return Err(leave(line, SessionFault::Memory)),
+            Err(_) => return Err(leave(writer, SessionFault::Memory)),
         };
         let messages = fed.messages.as_slice();
         let count = messages.len().min((MOST_REQUESTS - requests) as usize);
-        match self.answer_all(line, &messages[..count]) {
+        match self.answer_all(writer, &messages[..count]) {
             Ok(()) => {}
             Err(end) => return Err(end),
         }
         if count < messages.len() {
-            return Err(leave(line, SessionFault::TooManyRequests));
+            return Err(leave(writer, SessionFault::TooManyRequests));
         }
         match fed.fault {
-            Some(fault) => Err(leave(line, SessionFault::Stream(fault))),
+            Some(fault) => Err(leave(writer, SessionFault::Stream(fault))),
             None => Ok(requests + count as u32),
         }
     }
 }
 
 /// Sends the client the fault that ends the session.
-fn leave<W: Wire>(line: &mut Line<'_, W>, fault: SessionFault) -> SessionEnd
-    ensures { LeavesSending fault result (sending W.log line.old) (sending W.log line.new) }
+fn leave<W: Wire>(writer: &mut CountingWriter<'_, W>, fault: SessionFault) -> SessionEnd
+    ensures { LeavesSending fault result (sending W.log writer.old) (sending W.log writer.new) }
 {
-    match send_fault(line, fault.code()) {
+    match send_fault(writer, fault.code()) {
         Ok(()) => SessionEnd::Fault(fault),
         Err(failed) => SessionEnd::Write(failed),
     }

@@ -20,10 +20,10 @@ use Rattle.cut_journal.specs.Reading.{reading}
 use Rattle.cut_journal.proofs.Series.{LeavesDoubt, each_then}
 use Rattle.cut_share.specs.declared.fault.ShareFault.{ShareFault}
 use Rattle.cut_share.specs.declared.fault.ShareFault.TheVariants.{Memory, OtherPlan, BadSlip, WorkMemory, Broken, Disk}
-use Rattle.cut_share.specs.declared.task.Task.{Task}
+use Rattle.cut_share.specs.declared.piece_task.PieceTask.{PieceTask}
 use Rattle.cut_share.specs.inside.Tasks.{IsRun, done_of, has_result, pieces_of}
 use Rattle.cut_share.specs.Appending.{Adds, NoneFailed, OneFailed}
-use Rattle.cut_share.specs.inside.Running.{EndsAppends, fault_of, slip_at, slips_at}
+use Rattle.cut_share.specs.inside.Running.{EndsAppends, share_fault_of, slip_at, slips_at}
 
 -- ---- no append, and one
 
@@ -76,7 +76,7 @@ pub append_failed : (T : Type 0) {D : Type 0} (log_of : D → DiskLog) (e : Jour
     → (IsErrOf {T = ℕ} (Err e) journal.Broken ↔ IsSome old.doubtful)
     → LeavesAppend (Err e) (slip_at v p) old new
     → (IsKnown (log_of old.disk) → IsOneAppend log_of (Err e) (slip_at v p) old new)
-    → EndsAppends {T = T} log_of (Err (fault_of e)) v (p ∷ []) old new
+    → EndsAppends {T = T} log_of (Err (share_fault_of e)) v (p ∷ []) old new
 append_failed T log_of journal.Memory v p old new may other broken left honest = absurd may
 append_failed T log_of journal.Disk v p old new may other broken left honest =
     (let failed = one_doubtful log_of (slip_at v p) old new left broken honest in
@@ -125,20 +125,20 @@ added_doubtful log_of xs ys slip old mid new honest before none after failed =
 
 -- ---- a task's result
 
-pub done_none : (task : Task) → task.result ≡ None → done_of (task ∷ []) ≡ []
+pub done_none : (task : PieceTask) → task.result ≡ None → done_of (task ∷ []) ≡ []
 done_none task none = ap (λ (o : Option Computed). pieces_of (cond (is_some o) (task ∷ []) [])) none
 
-pub result_is : (v : Values) (task : Task) (r : Computed) → task.result ≡ Some r → IsRun v task
+pub result_is : (v : Values) (task : PieceTask) (r : Computed) → task.result ≡ Some r → IsRun v task
     → r ≡ record { plan = v; piece = task.piece }
 result_is v task r some run =
     subst (λ (o : Option Computed). IfSome o (λ x. x ≡ record { plan = v; piece = task.piece })) some run
 
-slip_is : (v : Values) (task : Task) (r : Computed) → task.result ≡ Some r → IsRun v task
+slip_is : (v : Values) (task : PieceTask) (r : Computed) → task.result ≡ Some r → IsRun v task
     → slip_of r ≡ slip_at v task.piece
 slip_is v task r some run = ap (λ (x : Computed). slip_of x) (result_is v task r some run)
 
 pub task_appended : {T D : Type 0} (log_of : D → DiskLog) (done : T) (n : ℕ) (v : Values)
-    (task : Task) (r : Computed) (old new : JournalValue D) → task.result ≡ Some r → IsRun v task
+    (task : PieceTask) (r : Computed) (old new : JournalValue D) → task.result ≡ Some r → IsRun v task
     → LeavesAppend (Ok n) (slip_of r) old new → (IsErrOf {T = ℕ} (Ok n) journal.Broken ↔ IsSome old.doubtful)
     → (IsKnown (log_of old.disk) → IsOneAppend log_of (Ok n) (slip_of r) old new)
     → EndsAppends {T = T} log_of (Ok done) v (done_of (task ∷ [])) old new
@@ -146,30 +146,30 @@ task_appended {T} log_of done n v task r old new some run left broken honest =
     grind (arith, slip_is, one_added)
 
 pub task_failed : (T : Type 0) {D : Type 0} (log_of : D → DiskLog) (e : JournalFault)
-    (v : Values) (task : Task) (r : Computed) (old new : JournalValue D) → task.result ≡ Some r → IsRun v task
+    (v : Values) (task : PieceTask) (r : Computed) (old new : JournalValue D) → task.result ≡ Some r → IsRun v task
     → IsAppendFault e
     → (IsErrOf {T = ℕ} (Err e) journal.OtherPlan → ⊥)
     → (IsErrOf {T = ℕ} (Err e) journal.Broken ↔ IsSome old.doubtful)
     → LeavesAppend (Err e) (slip_of r) old new
     → (IsKnown (log_of old.disk) → IsOneAppend log_of (Err e) (slip_of r) old new)
-    → EndsAppends {T = T} log_of (Err (fault_of e)) v (done_of (task ∷ [])) old new
+    → EndsAppends {T = T} log_of (Err (share_fault_of e)) v (done_of (task ∷ [])) old new
 task_failed T log_of e v task r old new some run may other broken left honest =
     grind (arith, slip_is, append_failed)
 
 -- ---- tasks one after another
 
-pub done_more : (tasks : List Task) (i : ℕ) (task : Task) → i < length tasks → task ≡ get_or tasks i task
+pub done_more : (tasks : List PieceTask) (i : ℕ) (task : PieceTask) → i < length tasks → task ≡ get_or tasks i task
     → done_of (take (i + 1) tasks) ≡ done_of (take i tasks) ++ done_of (task ∷ [])
 done_more tasks i task low is =
     grind (arith, take_more tasks i task low, filter-append has_result (take i tasks) (task ∷ []), map-append)
 
 -- those before, this one, and those after it
-pub done_split : (tasks : List Task) (i : ℕ) (task : Task) → i < length tasks → task ≡ get_or tasks i task
+pub done_split : (tasks : List PieceTask) (i : ℕ) (task : PieceTask) → i < length tasks → task ≡ get_or tasks i task
     → done_of tasks ≡ (done_of (take i tasks) ++ done_of (task ∷ [])) ++ done_of (drop (i + 1) tasks)
 done_split tasks i task low is =
     ap done_of (sym (take-append-drop (i + 1) tasks))
     ∙ ap pieces_of (filter-append has_result (take (i + 1) tasks) (drop (i + 1) tasks))
-    ∙ map-append (λ (x : Task). x.piece) (filter has_result (take (i + 1) tasks))
+    ∙ map-append (λ (x : PieceTask). x.piece) (filter has_result (take (i + 1) tasks))
     (filter has_result (drop (i + 1) tasks))
     ∙ ap (λ (ps : List Piece). ps ++ done_of (drop (i + 1) tasks)) (done_more tasks i task low is)
 

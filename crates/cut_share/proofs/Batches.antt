@@ -20,7 +20,7 @@ use Rattle.cut_journal.specs.Journal.{JournalValue}
 use Rattle.cut_share.specs.declared.fault.ShareFault.{ShareFault}
 use Rattle.cut_share.specs.declared.fault.ShareFault.TheVariants.{Memory, OtherPlan, BadSlip, WorkMemory, Broken, Disk}
 use Rattle.cut_share.specs.declared.share.Share.{Share}
-use Rattle.cut_share.specs.declared.task.Task.{Task}
+use Rattle.cut_share.specs.declared.piece_task.PieceTask.{PieceTask}
 use Rattle.cut_share.specs.Appending.{Adds, NoneFailed}
 use Rattle.cut_share.specs.inside.Batches.{EndsPieces, IsUpTo, IsWhole}
 use Rattle.cut_share.specs.inside.Pieces.{IsSharePiece, own_times}
@@ -42,12 +42,12 @@ pub times_first : (p : Piece) (ps : List Piece) (t : ℕ) → times_in (p ∷ ps
 times_first p ps t = count_first (λ q. is_in q t) p ps
 
 -- how often a trial is in the pieces of tasks that pass
-times_passing : (p : Task → Bool) (task : Task) (tasks : List Task) (t : ℕ)
+times_passing : (p : PieceTask → Bool) (task : PieceTask) (tasks : List PieceTask) (t : ℕ)
     → times_in (pieces_of (filter p (task ∷ tasks))) t
     ≡ cond (p task) (one_if (is_in task.piece t)) 0 + times_in (pieces_of (filter p tasks)) t
 times_passing p task tasks t = grind (arith, times_first task.piece (pieces_of (filter p tasks)) t)
 
-pub times_parted : (tasks : List Task) (t : ℕ)
+pub times_parted : (tasks : List PieceTask) (t : ℕ)
     → times_in (done_of tasks) t + times_in (lost_of tasks) t ≡ times_in (pieces_of tasks) t
 times_parted [] t = refl
 times_parted (task ∷ tasks) t =
@@ -64,21 +64,21 @@ times_parted (task ∷ tasks) t =
     once true n = omega arith
     once false n = omega arith
 
-pub own_filtered : (s : Share) (v : Values) (p : Task → Bool) (tasks : List Task)
+pub own_filtered : (s : Share) (v : Values) (p : PieceTask → Bool) (tasks : List PieceTask)
     → All (IsSharePiece s v) (pieces_of tasks) → All (IsSharePiece s v) (pieces_of (filter p tasks))
 own_filtered s v p [] own = own
 own_filtered s v p (task ∷ tasks) own =
     grind (arith, All-head, own_filtered s v p tasks (All-tail (IsSharePiece s v) task.piece (pieces_of tasks) own))
 
-none_lost : (tasks : List Task) → list_all has_result tasks ≡ true → length (lost_of tasks) ≡ 0
+none_lost : (tasks : List PieceTask) → list_all has_result tasks ≡ true → length (lost_of tasks) ≡ 0
 none_lost [] all = refl
 none_lost (task ∷ tasks) all = grind (arith, none_lost tasks)
 
-some_lost : (tasks : List Task) → list_all has_result tasks ≡ false → 1 ≤ length (lost_of tasks)
+some_lost : (tasks : List PieceTask) → list_all has_result tasks ≡ false → 1 ≤ length (lost_of tasks)
 some_lost [] not_all = absurd (let bad : true ≡ false = not_all in cc)
 some_lost (task ∷ tasks) not_all = grind (arith, some_lost tasks)
 
-whole_more : (whole done : Bool) (lost : List Piece) (tasks : List Task) → IsWhole whole lost
+whole_more : (whole done : Bool) (lost : List Piece) (tasks : List PieceTask) → IsWhole whole lost
     → done ≡ list_all has_result tasks → IsWhole (whole && done) (lost ++ lost_of tasks)
 whole_more true true lost tasks before is = grind (arith, none_lost, length-append)
 whole_more true false lost tasks before is = grind (arith, some_lost, length-append)
@@ -100,7 +100,7 @@ none_yet log_of s v all log added = record {
 
 -- the results of one batch more are kept
 pub batch_more : {D : Type 0} (log_of : D → DiskLog) (whole done : Bool) (s : Share)
-    (v : Values) (all left next : List Piece) (tasks : List Task) (old mid new : JournalValue D)
+    (v : Values) (all left next : List Piece) (tasks : List PieceTask) (old mid new : JournalValue D)
     → (IsKnown (log_of old.disk) → IsKnown (log_of mid.disk)) → IsUpTo log_of whole s v all left old mid
     → All (IsSharePiece s v) (pieces_of tasks)
     → ((t : ℕ) → times_in (pieces_of tasks) t + own_times s v next t ≡ own_times s v left t)
@@ -144,7 +144,7 @@ some_time s v (p ∷ ps) own some = grind (arith, All-head (IsSharePiece s v) p 
 
 -- a batch ends the run
 pub batch_stops : {D : Type 0} (log_of : D → DiskLog) (e : ShareFault) (whole : Bool)
-    (s : Share) (v : Values) (all left next : List Piece) (tasks : List Task) (old mid new : JournalValue D)
+    (s : Share) (v : Values) (all left next : List Piece) (tasks : List PieceTask) (old mid new : JournalValue D)
     → (IsKnown (log_of old.disk) → IsKnown (log_of mid.disk)) → IsUpTo log_of whole s v all left old mid
     → All (IsSharePiece s v) (pieces_of tasks)
     → ((t : ℕ) → times_in (pieces_of tasks) t + own_times s v next t ≡ own_times s v left t)

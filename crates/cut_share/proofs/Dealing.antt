@@ -13,7 +13,7 @@ use Rattle.cut_ledger.specs.Contents.{is_in}
 use Rattle.cut_ledger.specs.World.{times_in}
 use Rattle.cut_ledger.proofs.Law.{times-append}
 use Rattle.cut_share.specs.declared.share.Share.{Share}
-use Rattle.cut_share.specs.declared.task.Task.{Task}
+use Rattle.cut_share.specs.declared.piece_task.PieceTask.{PieceTask}
 use Rattle.cut_share.specs.inside.Pieces.{IsSharePiece, own_times}
 use Rattle.cut_share.specs.inside.Tasks.{pieces_of}
 
@@ -31,7 +31,7 @@ take_put {X} xs n x low = ap (λ k. take k (slice_set xs n x)) (let w : n + 1 �
     go (y ∷ ys) zero below = refl
     go (y ∷ ys) (suc k) below = ap (λ zs. y ∷ zs) (go ys k (omega arith))
 
-pub dealt : (tasks : List Task) (n : ℕ) (p : Piece) (result : Option Computed) → n < length tasks
+pub dealt : (tasks : List PieceTask) (n : ℕ) (p : Piece) (result : Option Computed) → n < length tasks
     → pieces_of (take (n + 1) (slice_set tasks n (record { piece = p; result = result })))
     ≡ pieces_of (take n tasks) ++ p ∷ []
 dealt tasks n p result low =

@@ -1,11 +1,11 @@
 ghost use Rattle.std.specs.Prelude.{◌≡◌, ◌↔◌, ◌∷◌, [], All};
 ghost use Rattle.cut_disks.specs.Log.{is_known};
 ghost use Rattle.cut_share.specs.Running.{running_faults};
-ghost use Rattle.cut_share.specs.inside.Running.{EndsAppends, fault_of};
+ghost use Rattle.cut_share.specs.inside.Running.{EndsAppends, share_fault_of};
 ghost use Rattle.cut_share.specs.inside.Tasks.{IsRun, done_of};
 
 use crate::ShareFault;
-use crate::task::Task;
+use crate::piece_task::PieceTask;
 use cut_disks::Disk;
 use cut_journal::{Journal, JournalFault};
 use cut_outcome::Gate;
@@ -16,7 +16,7 @@ pub(crate) fn append_all<D: Disk, G: Gate, R: Wait>(
     rt: &R,
     gate: &G,
     journal: &mut Journal<D>,
-    tasks: &[Task],
+    tasks: &[PieceTask],
 ) -> Result<(), ShareFault>
     requires { All (IsRun journal.old.plan) tasks.now }
     ensures ends { EndsAppends D.log result journal.old.plan (done_of tasks.now)
@@ -36,7 +36,7 @@ fn append<D: Disk, G: Gate, R: Wait>(
     rt: &R,
     gate: &G,
     journal: &mut Journal<D>,
-    task: &Task,
+    task: &PieceTask,
 ) -> Result<(), ShareFault>
     requires { IsRun journal.old.plan task.now }
     ensures ends { EndsAppends D.log result journal.old.plan (done_of (task.now ∷ []))
@@ -53,13 +53,13 @@ fn append<D: Disk, G: Gate, R: Wait>(
             gate.accepted(rt, task.piece);
             Ok(())
         }
-        Err(fault) => Err(fault_of(fault)),
+        Err(fault) => Err(share_fault_of(fault)),
     }
 }
 
 /// The fault of a share's run for the fault of an append.
-fn fault_of(fault: JournalFault) -> ShareFault
-    ensures { result ≡ fault_of fault }
+fn share_fault_of(fault: JournalFault) -> ShareFault
+    ensures { result ≡ share_fault_of fault }
 {
     match fault {
         JournalFault::Disk => ShareFault::Disk,

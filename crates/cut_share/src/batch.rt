@@ -9,8 +9,8 @@ ghost use Rattle.cut_share.specs.inside.Tasks.{done_of, has_result, pieces_of};
 use crate::ShareFault;
 use crate::append::append_all;
 use crate::share_pieces::SharePieces;
-use crate::task::{Task, are_done, deal};
-use crate::tools::Tools;
+use crate::piece_task::{PieceTask, are_done, deal_pieces};
+use crate::env::ShareEnv;
 use cut_disks::Disk;
 use cut_journal::Journal;
 use cut_outcome::Gate;
@@ -21,13 +21,13 @@ use std::thread::Threads;
 /// journal of their plan. Returns whether memory sufficed for all of them.
 pub(crate) fn run_pieces<D: Disk, G: Gate + Sync, R: Threads + Wait + Sync>(
     rt: &R,
-    tools: &Tools<'_, G>,
+    env: &ShareEnv<'_, G>,
     pieces: SharePieces<'_>,
-    tasks: &mut [Task],
+    tasks: &mut [PieceTask],
     journal: &mut Journal<D>,
 ) -> Result<bool, ShareFault>
     requires some { 1 ≤ length tasks.old }
-    requires plan { tools.now.plan.now ≡ pieces.plan.now }
+    requires plan { env.now.plan.now ≡ pieces.plan.now }
     requires own { journal.old.plan ≡ pieces.plan.now }
     ensures ends { EndsPieces D.log result pieces.entry.share pieces.entry.plan.now
         (pieces.entry.rest ∷ pieces.entry.later.now) journal.old journal.new }
@@ -38,11 +38,11 @@ pub(crate) fn run_pieces<D: Disk, G: Gate + Sync, R: Threads + Wait + Sync>(
     let mut pieces = pieces;
     let mut is_whole = true;
     loop {
-        let count = deal(&mut pieces, tasks);
+        let count = deal_pieces(&mut pieces, tasks);
         if count == 0 {
             return Ok(is_whole);
         }
-        let is_done = run_batch(rt, tools, &mut tasks[..count], journal)?;
+        let is_done = run_batch(rt, env, &mut tasks[..count], journal)?;
         is_whole &= is_done;
     }
 }
@@ -50,11 +50,11 @@ pub(crate) fn run_pieces<D: Disk, G: Gate + Sync, R: Threads + Wait + Sync>(
 /// Runs the pieces of tasks, and appends the results. Returns whether each has one.
 fn run_batch<D: Disk, G: Gate + Sync, R: Threads + Wait + Sync>(
     rt: &R,
-    tools: &Tools<'_, G>,
-    tasks: &mut [Task],
+    env: &ShareEnv<'_, G>,
+    tasks: &mut [PieceTask],
     journal: &mut Journal<D>,
 ) -> Result<bool, ShareFault>
-    requires { journal.old.plan ≡ tools.now.plan.now }
+    requires { journal.old.plan ≡ env.now.plan.now }
     ensures pieces { pieces_of tasks.new ≡ pieces_of tasks.old }
     ensures ends { EndsAppends D.log result journal.old.plan (done_of tasks.new)
         journal.old journal.new }
@@ -62,7 +62,7 @@ fn run_batch<D: Disk, G: Gate + Sync, R: Threads + Wait + Sync>(
     ensures known { is_known (D.log journal.new.disk) ≡ is_known (D.log journal.old.disk) }
     ensures faults { (D.log journal.new.disk).failed ≡ running_faults result (D.log journal.old.disk).failed }
 {
-    tools.run_all(rt, tasks);
-    append_all(rt, tools.gate, journal, tasks)?;
+    env.run_all(rt, tasks);
+    append_all(rt, env.gate, journal, tasks)?;
     Ok(are_done(tasks))
 }

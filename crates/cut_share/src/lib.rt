@@ -10,8 +10,8 @@ pub mod laws;
 mod share;
 mod share_pieces;
 mod share_run;
-mod task;
-mod tools;
+mod piece_task;
+mod env;
 
 pub use fault::ShareFault;
 pub use share::Share;

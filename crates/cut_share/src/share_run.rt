@@ -8,8 +8,8 @@ ghost use Rattle.cut_share.specs.inside.Opening.{IsFaultOfOpening};
 
 use crate::batch::run_pieces;
 use crate::share_pieces::SharePieces;
-use crate::task::new_tasks;
-use crate::tools::Tools;
+use crate::piece_task::new_tasks;
+use crate::env::ShareEnv;
 use crate::{Share, ShareFault};
 use cut_disks::Disk;
 use cut_journal::Journal;
@@ -79,14 +79,14 @@ impl<G: Gate + Sync> ShareRun<'_, G> {
         let left = pieces.trials_left();
         self.gate
             .opened(rt, u64::from(all).saturating_sub(left), u64::from(all));
-        let tools = Tools {
+        let env = ShareEnv {
             alloc,
             plan: self.plan,
             rings: &rings,
             workers: self.workers,
             gate: self.gate,
         };
-        if run_pieces(rt, &tools, pieces, tasks.as_mut_slice(), journal)? {
+        if run_pieces(rt, &env, pieces, tasks.as_mut_slice(), journal)? {
             Ok(all)
         } else {
             Err(ShareFault::WorkMemory)

@@ -27,7 +27,7 @@ pub use call_ledger::{Blanks, CallLedger};
 pub use closing::{Parts, audit, lacks_passes, take_apart};
 pub use next_row_fault::NextRowFault;
 pub use not_closed::{Mismatch, NotClosed};
-pub use pass::{Pass, deal};
+pub use pass::{Pass, make_passes};
 pub use report::{Report, SlotReport};
 pub use slot::{Asked, CallFault, Match, Slot};
 pub use turn::{Drawn, Next, draw_in, next_after, twice};

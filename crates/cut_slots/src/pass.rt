@@ -32,7 +32,7 @@ impl<M: CallLedger> Model for Pass<M> {
 }
 
 /// The passes of a hall, each a seat of its board with a part of the ledger of made calls.
-pub fn deal<M: CallLedger>(
+pub fn make_passes<M: CallLedger>(
     alloc: Global,
     board: &Board,
     mut seats: Vec<Seat>,

@@ -23,7 +23,7 @@ use Rattle.cut_status.specs.declared.fault.StatusFault.{StatusFault}
 use Rattle.cut_status.specs.declared.fault.StatusFault.TheVariants.{Memory, NoStudy, Damaged, BadSlip}
 use Rattle.cut_status.specs.Status.{StatusValue, status_over}
 use Rattle.cut_status.specs.Study.{IsStatusOf, IsOfNone, IsDamaged, IsStatusFault}
-use Rattle.cut_status.specs.inside.Study.{after_slips, fault_of, IsFaultOver, IsOfNoPlan, IsTallyIn}
+use Rattle.cut_status.specs.inside.Study.{after_slips, status_fault_of, IsFaultOver, IsOfNoPlan, IsTallyIn}
 use Rattle.cut_status.specs.inside.Study.{IsUnderWay}
 use Rattle.cut_status.proofs.Headers.{ReadsBack, says_text, same_plan}
 
@@ -139,7 +139,7 @@ damaged back v bytes (suc n) some plan says is = (v, (plan, is))
 
 -- the fault of a journal of the plan that the header says
 pub unreadable : ReadsBack → (v : Values) (bytes : List ℕ) (e : JournalFault) → is_study bytes ≡ true → IsPlan v
-    → says_plan v bytes ≡ true → IsUnreadable v bytes e → IsStatusFault bytes (fault_of e)
+    → says_plan v bytes ≡ true → IsUnreadable v bytes e → IsStatusFault bytes (status_fault_of e)
 unreadable back v bytes journal.Memory some plan says is = tt
 unreadable back v bytes journal.Disk some plan says is = absurd (subst IsOfSlips is (own_reading v bytes some says))
 unreadable back v bytes journal.NoStudy some plan says is = absurd (subst IsOfSlips is (own_reading v bytes some says))

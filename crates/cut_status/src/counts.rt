@@ -22,7 +22,7 @@ pub fn trials_held(plan: &Plan, slips: &[Slip]) -> u32
 }
 
 /// How many cells of a tally's plan are done.
-pub(crate) fn cells_done(tally: &SlipTally) -> u32
+pub(crate) fn done_cells(tally: &SlipTally) -> u32
     ensures { result ≡ done_among tally.now (length (cells_of tally.now.plan)) }
 {
     let mut done = 0;

@@ -3,7 +3,7 @@ ghost use Rattle.cut_plan.specs.Plan.{IsPlan};
 ghost use Rattle.cut_journal.specs.Reading.{is_study, says_plan};
 ghost use Rattle.cut_journal.specs.Unread.{IsUnreadable};
 ghost use Rattle.cut_status.specs.Study.{IsStatusOf, IsStatusFault};
-ghost use Rattle.cut_status.specs.inside.Study.{fault_of, IsTallyIn};
+ghost use Rattle.cut_status.specs.inside.Study.{status_fault_of, IsTallyIn};
 
 use crate::header::header_plan;
 use crate::{Status, StatusFault};
@@ -41,7 +41,7 @@ fn tally_in(alloc: Global, bytes: &[u8], plan: Plan) -> Result<SlipTally, Status
     canonical_text_reads_back();
     match tally_of(alloc, bytes, plan) {
         Ok(tally) => Ok(tally),
-        Err(fault) => Err(fault_of(fault)),
+        Err(fault) => Err(status_fault_of(fault)),
     }
 }
 
@@ -65,8 +65,8 @@ fn tally_of(alloc: Global, bytes: &[u8], plan: Plan) -> Result<SlipTally, Journa
 }
 
 /// The fault of a journal, where the header says its plan: it has no others than the first two.
-fn fault_of(fault: JournalFault) -> StatusFault
-    ensures { result ≡ fault_of fault }
+fn status_fault_of(fault: JournalFault) -> StatusFault
+    ensures { result ≡ status_fault_of fault }
 {
     match fault {
         JournalFault::Memory => StatusFault::Memory,

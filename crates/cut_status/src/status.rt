@@ -6,7 +6,7 @@ ghost use Rattle.cut_status.specs.Status.{status_over, status_text};
 ghost use Rattle.cut_status.specs.inside.Study.{IsFaultOver};
 
 use crate::StatusFault;
-use crate::counts::cells_done;
+use crate::counts::done_cells;
 use cut_ledger::SlipTally;
 use std::alloc::{AllocError, Global};
 use std::marker::Model;
@@ -57,7 +57,7 @@ impl Status {
         Ok(Status {
             held: tally.held(),
             trials: plan.trials(),
-            done: cells_done(tally),
+            done: done_cells(tally),
             cells: plan.cells(),
             slips: u64::from(tally.slips()),
             text,

@@ -27,7 +27,7 @@ use Rattle.cut_wires.proofs.RowLemmas.{rows_more}
 use Rattle.cut_table.specs.declared.fault.RowFault.{RowFault}
 use Rattle.cut_table.specs.declared.fault.RowFault.TheVariants as row
 use Rattle.cut_table.specs.Table.{row_of, Emits}
-use Rattle.cut_table.specs.inside.Table.{table_of, AreGiven, IsWithheld, emitted}
+use Rattle.cut_table.specs.inside.Table.{table_of, AreGiven, IsWithheld, table_result_of}
 
 -- the header and the lines of the first n cells
 abbrev pub lines_to : Contents → ℕ → List ℕ
@@ -106,10 +106,10 @@ abbrev pub SendsLines : Contents → Contents → Result ⊤ (RowsFault RowFault
 SendsLines l now result old new =
     SendsRows (λ text. text) (table_of l) (λ n. AreGiven l n now) (λ n fault. IsWithheld l n fault now) result old new
 
--- what a wire took of a table, by what was sent of its rows over a line that had sent nothing
+-- what a wire took of a table, by what was sent of its rows by a counting writer that had sent nothing
 emits : (l now : Contents) (name : GName) (log : WireLog) (result : Result ⊤ (RowsFault RowFault)) (new : Sending)
     → SendsLines l now result (record { wire = name; log = log; sent = 0 }) new
-    → Emits l (emitted result new.sent) log new.log
+    → Emits l (table_result_of result new.sent) log new.log
 emits l now name log (Ok done) new s =
     grind (arith, available_ends l s.count s.few s.ends.1.done)
 emits l now name log (Err (Write fault)) new s =
@@ -148,12 +148,12 @@ emits l now name log (Err (Row row.Memory)) new s =
       ap (λ (t : Sending). t.log) s.ends.2 ∙ ap (λ (ys : List ℕ). wrote log ys) first,
     )
 
--- and what its wire has taken once the line is given up
+-- and what its wire has taken once the writer is given up
 pub emits_at : {X : Type 0} (log : X → WireLog) (l now : Contents) (result : Result ⊤ (RowsFault RowFault))
     (first last after : X) (name other : GName) (sent : ℕ) (old : Sending)
     → old ≡ record { wire = name; log = log first; sent = 0 }
     → SendsLines l now result old (record { wire = other; log = log last; sent = sent })
-    → (name ≡ other → after ≡ last) → Emits l (emitted result sent) (log first) (log after)
+    → (name ≡ other → after ≡ last) → Emits l (table_result_of result sent) (log first) (log after)
 emits_at log l now result first last after name other sent old fresh sends leaves =
     let new : Sending = record { wire = other; log = log last; sent = sent } in
     grind (arith, emits l now name (log first) result new)

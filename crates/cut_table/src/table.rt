@@ -3,12 +3,12 @@ ghost use Rattle.cut_lines.specs.declared.line.TheConstants.{LONGEST_LINE};
 ghost use Rattle.cut_plan.specs.Cells.{cells_of};
 ghost use Rattle.cut_ledger.specs.Contents.{cell_done};
 ghost use Rattle.cut_table.specs.Table.{row_of, Emits, IsRowFault};
-ghost use Rattle.cut_table.specs.inside.Table.{emitted};
+ghost use Rattle.cut_table.specs.inside.Table.{table_result_of};
 
 use crate::{RowFault, TableFault};
 use cut_ledger::Ledger;
 use cut_lines::{cell_line, header};
-use cut_wires::{Line, Plain, Rows, RowsFault, Wire, send_rows};
+use cut_wires::{CountingWriter, PlainRows, RowSource, RowsFault, Wire, send_rows};
 use std::alloc::Global;
 
 /// The line of a cell, whose trials are all held, with a line feed. It has at most 294 bytes. That memory ran out is
@@ -34,7 +34,7 @@ struct LedgerRows<'a> {
     ledger: &'a Ledger,
 }
 
-impl Rows for LedgerRows<'_> {
+impl RowSource for LedgerRows<'_> {
     ghost use Rattle.std.proofs.Common.{arith};
     ghost use Rattle.cut_table.specs.inside.Table.{AreGiven, IsWithheld, none_given, table_of};
 
@@ -69,15 +69,15 @@ impl Rows for LedgerRows<'_> {
 pub fn emit_table<W: Wire>(alloc: Global, ledger: &Ledger, wire: &mut W) -> Result<(), TableFault>
     ensures { Emits ledger.now.contents result (W.log wire.old) (W.log wire.new) }
 {
-    let mut line = Line::new(wire);
+    let mut writer = CountingWriter::new(wire);
     let mut rows = LedgerRows { alloc, ledger };
-    let result = send_rows::<Plain, LedgerRows<'_>, W>(&mut rows, &mut line);
-    emitted(result, line.sent())
+    let result = send_rows::<PlainRows, LedgerRows<'_>, W>(&mut rows, &mut writer);
+    table_result_of(result, writer.sent())
 }
 
 /// The result of writing a table, by the result of sending its rows and the number of bytes sent.
-fn emitted(outcome: Result<(), RowsFault<RowFault>>, sent: u64) -> Result<(), TableFault>
-    ensures { result ≡ emitted outcome sent }
+fn table_result_of(outcome: Result<(), RowsFault<RowFault>>, sent: u64) -> Result<(), TableFault>
+    ensures { result ≡ table_result_of outcome sent }
 {
     match outcome {
         Ok(()) => Ok(()),

@@ -12,15 +12,15 @@ use Rattle.cut_lists.proofs.Maps.{count_by-map}
 use Rattle.cut_lists.proofs.Ranges.{All-range_with_len, few_filtered, none_passing, passing}
 use Rattle.cut_lists.proofs.Ranges.{list_any_passing}
 unfoldable use Rattle.cut_detector.specs.Counts.{is_full, is_reported, is_some_stable, is_stable}
-use Rattle.cut_receivers.specs.declared.finding.Finding.{Finding}
-use Rattle.cut_receivers.specs.declared.finding.Finding.TheVariants.{Doubtful, Other, Silent, Wanted}
-use Rattle.cut_receivers.specs.Findings.{flagged, Finds}
+use Rattle.cut_receivers.specs.declared.lane_verdict.LaneVerdict.{LaneVerdict}
+use Rattle.cut_receivers.specs.declared.lane_verdict.LaneVerdict.TheVariants.{Doubtful, Other, Silent, Wanted}
+use Rattle.cut_receivers.specs.LaneVerdicts.{flagged, IsVerdictOn}
 use Rattle.cut_trial.specs.declared.alerts.Alerts.{Alerts}
 use Rattle.cut_trial.specs.inside.Judging.{proposed_by, proposals_to}
 use Rattle.cut_outcome.proofs.Words.{Assignment, EdgeSet, IsTrue, Layout, Rule, Source}
 use Rattle.cut_outcome.proofs.Words.{count_by, is_target, list_any, range_with_len}
 use Rattle.cut_outcome.proofs.Words.{receivers_of}
-use Rattle.cut_nodes.proofs.NodeLemmas.{stable_reported}
+use Rattle.cut_candidates.proofs.CandidateLemmas.{stable_reported}
 
 -- ---- flags
 
@@ -39,7 +39,7 @@ all_of_both : (f q : ℕ → Bool) (xs : List ℕ) → length (filter f (filter 
 all_of_both f q [] many = refl
 all_of_both f q (x ∷ xs) many = grind (arith, few_of_both, all_of_both f q xs)
 
--- where as many flags are set as there are targets, each target is a node
+-- where as many flags are set as there are targets, each target is a candidate
 pub complete_from : (f q : ℕ → Bool) (n : ℕ) (subjects targets : List ℕ) (flags : List Bool)
     → subjects ≡ filter q (range_with_len 0 n) → targets ≡ filter f (range_with_len 0 n) → flags ≡ map f subjects
     → count_by (λ flag. flag) flags ≡ length targets → flagged subjects flags ≡ targets
@@ -55,13 +55,14 @@ some_reported r rule E gap some =
     let found = passing (λ s. is_stable r rule E s) 0 r.nodes some in
     search (arith, list_any_passing, stable_reported)
 
--- so where some process is stable in the end there is a node
-pub some_node : {X : Type 0} (r : Layout) (rule : Rule) (E : EdgeSet) (subject : X → ℕ) (nodes : List X) → rule.l
+-- so where some process is stable in the end there is a candidate
+pub some_candidate : {X : Type 0} (r : Layout) (rule : Rule) (E : EdgeSet) (subject : X → ℕ) (candidates : List X)
+    → rule.l
     ≤ rule.h
     → is_some_stable r rule E ≡ true
-    → map subject nodes ≡ filter (λ s. is_reported rule E s) (range_with_len 0 r.nodes) → 0 < length nodes
-some_node r rule E subject nodes gap some are =
-    grind (arith, length-map nodes subject, length-filter, list_any-count_by, some_reported r rule E gap some)
+    → map subject candidates ≡ filter (λ s. is_reported rule E s) (range_with_len 0 r.nodes) → 0 < length candidates
+some_candidate r rule E subject candidates gap some are =
+    grind (arith, length-map candidates subject, length-filter, list_any-count_by, some_reported r rule E gap some)
 
 -- ---- receivers
 
@@ -93,13 +94,15 @@ on_ok (Ok x) f a = f a
 on_ok (Err e) f a = tt
 
 -- what was found where nothing is proposed, and where the wanted members are
-pub found_silent : (wanted : List ℕ) (proposed : Option (List ℕ)) (f : Finding) → f ≡ Silent → Finds wanted proposed f
+pub found_silent : (wanted : List ℕ) (proposed : Option (List ℕ)) (f : LaneVerdict) → f ≡ Silent
+    → IsVerdictOn wanted proposed f
     → proposed ≡ None
-found_silent wanted proposed f is finds = subst (λ g. Finds wanted proposed g) is finds
+found_silent wanted proposed f is finds = subst (λ g. IsVerdictOn wanted proposed g) is finds
 
-pub found_wanted : (wanted : List ℕ) (proposed : Option (List ℕ)) (f : Finding) → f ≡ Wanted → Finds wanted proposed f
+pub found_wanted : (wanted : List ℕ) (proposed : Option (List ℕ)) (f : LaneVerdict) → f ≡ Wanted
+    → IsVerdictOn wanted proposed f
     → proposed ≡ Some wanted
-found_wanted wanted proposed f is finds = subst (λ g. Finds wanted proposed g) is finds
+found_wanted wanted proposed f is finds = subst (λ g. IsVerdictOn wanted proposed g) is finds
 
 -- what a loop over all of a list has gone through at its end
 pub taken_all : {X : Type 0} (xs ys : List X) (n : ℕ) → ys ≡ xs → length ys ≤ n → take n xs ≡ xs
@@ -129,16 +132,16 @@ subjects_within q n m subjects are same =
 
 -- ---- other members
 
-pub found_other : (wanted : List ℕ) (proposed : Option (List ℕ)) (f : Finding) (listed : List ℕ) → f ≡ Other
-    → Finds wanted proposed f → IfSome proposed (λ members. listed ≡ members) → Some listed ≡ proposed
+pub found_other : (wanted : List ℕ) (proposed : Option (List ℕ)) (f : LaneVerdict) (listed : List ℕ) → f ≡ Other
+    → IsVerdictOn wanted proposed f → IfSome proposed (λ members. listed ≡ members) → Some listed ≡ proposed
 found_other wanted proposed f listed is finds same =
     grind arith
 
-pub not_doubtful : (b : Bool) (f : Finding) → (f ≡ Doubtful → ⊥) → (IsTrue b → f ≡ Doubtful) → b ≡ false
+pub not_doubtful : (b : Bool) (f : LaneVerdict) → (f ≡ Doubtful → ⊥) → (IsTrue b → f ≡ Doubtful) → b ≡ false
 not_doubtful b f other doubtful = grind arith
 
-pub wanted_is_certain : (f : Finding) → f ≡ Wanted → f ≡ Doubtful → ⊥
+pub wanted_is_certain : (f : LaneVerdict) → f ≡ Wanted → f ≡ Doubtful → ⊥
 wanted_is_certain f is doubtful = let both : Wanted ≡ Doubtful = sym is ∙ doubtful in cc
 
-pub other_is_certain : (f : Finding) → f ≡ Other → f ≡ Doubtful → ⊥
+pub other_is_certain : (f : LaneVerdict) → f ≡ Other → f ≡ Doubtful → ⊥
 other_is_certain f is doubtful = let both : Other ≡ Doubtful = sym is ∙ doubtful in cc

@@ -7,11 +7,11 @@
 
 mod alerts;
 mod ballot;
-mod cast;
+mod setup;
 mod fault;
-mod hearing;
+mod deliveries;
 mod input;
-mod judges;
+mod receiver_judge;
 mod piece;
 mod replays;
 mod trial;

@@ -3,7 +3,7 @@ ghost use Rattle.cut_plan.specs.Cells.{IsCellOf};
 ghost use Rattle.cut_trial.specs.inside.Judging.{BelongsTo, proposed_by};
 
 use crate::alerts::Alerts;
-use crate::hearing::hear_all;
+use crate::deliveries::deliver_all;
 use crate::input::TrialInput;
 use cut_detector::Detector;
 use cut_draws::{DeliveryOrder, Draws};
@@ -33,7 +33,7 @@ impl<'a> Replay<'a> {
     }
 
     /// Delivers the alerts to a receiver in its own order, until it proposes.
-    pub fn hear(
+    pub fn receive(
         &mut self,
         draws: &mut Draws,
         alerts: &Alerts<'_>,
@@ -49,7 +49,7 @@ impl<'a> Replay<'a> {
         let copies = alerts.study.plan.copies();
         let edges = alerts.edges.as_slice();
         draws.order_deliveries(&mut self.order, receiver, alerts.cell.k, edges, copies)?;
-        hear_all(&mut self.detector, &self.order);
+        deliver_all(&mut self.detector, &self.order);
         Ok(())
     }
 }

@@ -4,9 +4,9 @@ ghost use Rattle.cut_outcome.specs.Outcome.{rings_of, cell_at, outcome};
 ghost use Rattle.cut_trial.specs.inside.Judging.{AreFor};
 
 use crate::alerts::Alerts;
-use crate::cast::{Cast, list_receivers, list_targets};
+use crate::setup::{TrialSetup, list_receivers, list_targets};
 use crate::input::TrialInput;
-use crate::judges::Judges;
+use crate::receiver_judge::ReceiverJudge;
 use cut_alerts::Roles;
 use cut_draws::{Draws, ProcessOrder};
 use cut_outcome::Totals;
@@ -41,8 +41,8 @@ pub(crate) struct Trials<'a> {
     processes: ProcessOrder,
     targets: Vec<u16>,
     receivers: Vec<u16>,
-    judges: Judges<'a>,
-    ghost fit: { AreFor alerts.study alerts.cell judges },
+    receiver_judge: ReceiverJudge<'a>,
+    ghost fit: { AreFor alerts.study alerts.cell receiver_judge },
 }
 
 impl<'a> Trials<'a> {
@@ -59,7 +59,7 @@ impl<'a> Trials<'a> {
             processes: ProcessOrder::new(alloc),
             targets: Vec::new(alloc),
             receivers: Vec::new(alloc),
-            judges: Judges::new(alloc, study, cell)?,
+            receiver_judge: ReceiverJudge::new(alloc, study, cell)?,
         })
     }
 
@@ -78,13 +78,13 @@ impl<'a> Trials<'a> {
         self.alerts.alert(&self.roles)?;
         list_targets(&mut self.targets, &self.roles)?;
         list_receivers(&mut self.receivers, &self.roles)?;
-        let cast = Cast {
+        let setup = TrialSetup {
             alerts: &self.alerts,
             roles: &self.roles,
             targets: self.targets.as_slice(),
             receivers: self.receivers.as_slice(),
         };
-        self.judges.judge(self.alloc, &mut draws, trial, cast)?;
-        Ok(self.judges.outcome.totals(plan, cell, cast.targets))
+        self.receiver_judge.judge(self.alloc, &mut draws, trial, setup)?;
+        Ok(self.receiver_judge.outcome.totals(plan, cell, setup.targets))
     }
 }

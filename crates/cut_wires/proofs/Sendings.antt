@@ -1,4 +1,4 @@
--- What was sent over a line, text by text.
+-- What was sent by a counting writer, text by text.
 use Rattle.std.proofs.Common.{Result, Ok, Err, ◌≡◌, ◌∙◌, ◌+◌, ◌++◌, List, ℕ, length, take}
 use Rattle.std.proofs.Common.{refl, sym, ap, arith, length-append}
 use Rattle.std.proofs.Math.Seq.{take-append-add}

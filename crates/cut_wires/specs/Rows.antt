@@ -1,4 +1,4 @@
--- A header and rows that are sent over a line, one after the other.
+-- A header and rows that are sent by a counting writer, one after the other.
 use Rattle.std.specs.Prelude.{◌≡◌, ◌+◌, ◌*◌, ◌^◌, ◌<◌, ◌≤◌, ◌++◌, ℕ, List, length, Result, Ok, Err, ⊤}
 use Rattle.std.specs.List.{range_with_len, flat_map}
 use Rattle.std.specs.Global.{Vec}
@@ -33,7 +33,7 @@ EndsRows framed t given failed n (Err (Write fault)) old new = given n × Sends 
 EndsRows framed t given failed n (Err (Row e)) old new =
     (n < t.rows) × failed n e × (new ≡ sent_on old (rows_to framed t n))
 
--- the same, and how many rows and bytes these are at most, where framing adds at most 5 bytes
+-- the same, and how many rows and bytes these are at most, where encoding adds at most 5 bytes
 pub record SendsRows {E : Type 0} (framed : List ℕ → List ℕ) (t : Table) (given : ℕ → Type 0)
     (failed : ℕ → E → Type 0) (result : Result ⊤ (RowsFault E)) (old new : Sending) : Type 0 where
   pub count : ℕ

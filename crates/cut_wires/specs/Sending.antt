@@ -1,19 +1,19 @@
--- A line over a wire as contracts see it, and what is sent over it.
+-- A counting writer over a wire as contracts see it, and what is sent over it.
 use Rattle.std.specs.Prelude.{◌≡◌, ◌+◌, ◌-◌, ◌^◌, ◌<◌, ℕ, List, length, min, take, Result, Ok, Err, ⊤}
 use Rattle.std.specs.Borrow.{GName}
-use Rattle.cut_wires.specs.declared.line.Line.{Line}
+use Rattle.cut_wires.specs.declared.counting_writer.CountingWriter.{CountingWriter}
 use Rattle.cut_wires.specs.declared.send.Sent.{Sent}
 use Rattle.cut_wires.specs.Log.{WireLog, wrote, gave, read_failed, write_failed}
 
--- the wire that a line borrows, that wire's log, and how many bytes were sent over the line, a count that stays at
+-- the wire that a counting writer borrows, that wire's log, and how many bytes were sent by it, a count that stays at
 -- 2^64 - 1
 pub record Sending : Type 0 where
   pub wire : GName
   pub log : WireLog
   pub sent : ℕ
 
-abbrev pub sending : {W : Type 0} → (W → WireLog) → Line W → Sending
-sending log line = record { wire = line.wire.ghost_name; log = log line.wire.now; sent = line.sent }
+abbrev pub sending : {W : Type 0} → (W → WireLog) → CountingWriter W → Sending
+sending log writer = record { wire = writer.wire.ghost_name; log = log writer.wire.now; sent = writer.sent }
 
 -- these bytes were sent
 abbrev pub sent_on : Sending → List ℕ → Sending

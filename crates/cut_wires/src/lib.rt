@@ -2,12 +2,12 @@
 //!
 //! A [`Wire`] fails at a call now and then, and counts those calls. Contracts see its log: what passed over it, if that
 //! is known, and how many of its calls failed. [`MemoryWire`] and [`FaultyWire`] are wires in memory, and
-//! [`StreamWire`] makes one of a reader and a writer. [`send_all`] writes all of some bytes, and a [`Line`] counts the
-//! bytes that it sends; [`send_rows`] sends a table over it, row by row.
+//! [`StreamWire`] makes one of a reader and a writer. [`send_all`] writes all of some bytes, and a [`CountingWriter`]
+//! counts the bytes that it sends; [`send_rows`] sends a table over it, row by row.
 #![tactic(auto)]
 
 mod faulty_wire;
-mod line;
+mod counting_writer;
 mod memory_wire;
 mod rows;
 mod send;
@@ -15,9 +15,9 @@ mod stream_wire;
 mod wire;
 
 pub use faulty_wire::FaultyWire;
-pub use line::Line;
+pub use counting_writer::CountingWriter;
 pub use memory_wire::MemoryWire;
-pub use rows::{Framing, LONGEST_ROW, Plain, Rows, RowsFault, send_rows};
+pub use rows::{Encoding, LONGEST_ROW, PlainRows, RowSource, RowsFault, send_rows};
 pub use send::{Sent, send_all};
 pub use stream_wire::StreamWire;
 pub use wire::{Wire, WireFault};

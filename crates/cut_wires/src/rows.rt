@@ -3,42 +3,42 @@ ghost use Rattle.cut_wires.specs.declared.rows.TheConstants.{LONGEST_ROW};
 ghost use Rattle.cut_wires.specs.Rows.{Table, Gives, SendsRows};
 ghost use Rattle.cut_wires.specs.Sending.{Sends, sending};
 
-use crate::{Line, Sent, Wire};
+use crate::{CountingWriter, Sent, Wire};
 
 /// The most bytes of a header or a row of a table, which fit into one message.
 pub const LONGEST_ROW: usize = 65_536;
 
-/// How a text is put on a line: as it is, or as the payload of a message.
-pub trait Framing {
+/// How a text is put on a wire: as it is, or as the payload of a message.
+pub trait Encoding {
     /// The bytes that are sent for a text.
     ghost framed: { List ℕ → List ℕ };
 
     /// Sends a text, which is at most as long as a row.
-    fn send<W: Wire>(line: &mut Line<'_, W>, text: &[u8]) -> Result<(), Sent>
+    fn send<W: Wire>(writer: &mut CountingWriter<'_, W>, text: &[u8]) -> Result<(), Sent>
         requires { length text.now ≤ LONGEST_ROW }
-        ensures { Sends result (framed text.now) (sending W.log line.old) (sending W.log line.new) };
+        ensures { Sends result (framed text.now) (sending W.log writer.old) (sending W.log writer.new) };
 
-    /// Framing adds at most 5 bytes.
+    /// Encoding adds at most 5 bytes.
     ghost short: { (text : List ℕ) → length (framed text) ≤ length text + 5 };
 }
 
 /// A text is sent as it is.
-pub struct Plain;
+pub struct PlainRows;
 
-impl Framing for Plain {
+impl Encoding for PlainRows {
     ghost use Rattle.std.proofs.Common.{arith};
 
     ghost framed = { λ text. text };
 
-    fn send<W: Wire>(line: &mut Line<'_, W>, text: &[u8]) -> Result<(), Sent> {
-        line.send(text)
+    fn send<W: Wire>(writer: &mut CountingWriter<'_, W>, text: &[u8]) -> Result<(), Sent> {
+        writer.send(text)
     }
 
     ghost short = { λ text. Prim.omega arith };
 }
 
 /// A table whose rows are given one by one, in order.
-pub trait Rows {
+pub trait RowSource {
     /// Why a row is not given.
     type Fault: Drop;
 
@@ -70,29 +70,29 @@ pub trait Rows {
     /// At first none was given.
     ghost begins: { (rows : Self) → HasGiven rows 0 rows };
 
-    /// The header and the rows are not too long for a framing.
+    /// The header and the rows are not too long for an encoding.
     ghost fits: { (rows : Self) → (table rows).longest ≤ LONGEST_ROW };
 }
 
 /// Why the rows of a table were not all sent.
 #[derive(Clone, Copy, Debug, PartialEq, Eq)]
 pub enum RowsFault<E> {
-    /// A write failed, and the fault has how many bytes the line had sent.
+    /// A write failed, and the fault has how many bytes the writer had sent.
     Write(Sent),
     /// A row was not given.
     Row(E),
 }
 
-/// Sends the header and the rows of a table over a line, up to the first row that is not given.
-pub fn send_rows<F: Framing, R: Rows, W: Wire>(
+/// Sends the header and the rows of a table by a counting writer, up to the first row that is not given.
+pub fn send_rows<F: Encoding, R: RowSource, W: Wire>(
     rows: &mut R,
-    line: &mut Line<'_, W>,
+    writer: &mut CountingWriter<'_, W>,
 ) -> Result<(), RowsFault<R::Fault>>
     ensures { SendsRows F.framed (R.table rows.old) (λ n. R.HasGiven rows.old n rows.new)
-        (λ n e. R.HasFailed rows.old n e rows.new) result (sending W.log line.old) (sending W.log line.new) }
+        (λ n e. R.HasFailed rows.old n e rows.new) result (sending W.log writer.old) (sending W.log writer.new) }
 {
     let count = rows.count();
-    match F::send(line, rows.header()) {
+    match F::send(writer, rows.header()) {
         Ok(()) => {}
         Err(fault) => return Err(RowsFault::Write(fault)),
     }
@@ -101,7 +101,7 @@ pub fn send_rows<F: Framing, R: Rows, W: Wire>(
             Ok(text) => text,
             Err(fault) => return Err(RowsFault::Row(fault)),
         };
-        match F::send(line, text.as_slice()) {
+        match F::send(writer, text.as_slice()) {
             Ok(()) => {}
             Err(fault) => return Err(RowsFault::Write(fault)),
         }

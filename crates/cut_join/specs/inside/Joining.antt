@@ -9,9 +9,9 @@ use Rattle.cut_join.specs.declared.fault.JoinFault.{JoinFault}
 use Rattle.cut_join.specs.declared.fault.JoinFault.TheVariants.{Broken, Disk}
 
 -- the fault of an append of a slip, as a join reports it; such an append has no other faults than these two
-abbrev pub fault_of : JournalFault → JoinFault
-fault_of journal.Disk = Disk
-fault_of fault = Broken
+abbrev pub join_fault_of : JournalFault → JoinFault
+join_fault_of journal.Disk = Disk
+join_fault_of fault = Broken
 
 -- how it ends: the slip was taken; or why it was not
 abbrev pub EndsAppend : {T D : Type 0} → Result T JoinFault → Slip → JournalValue D → JournalValue D → Type 0

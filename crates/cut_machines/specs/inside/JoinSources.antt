@@ -69,9 +69,9 @@ refused_at number (Journal fault) = Some number
 refused_at number fault = None
 
 -- the fault of a join as the program reports it
-abbrev pub fault_of : JoinFault → CliFault
-fault_of join.Memory = Memory
-fault_of (join.BadSlip number) = BadSlip number
-fault_of join.OtherPlan = Migrate migration.OtherPlan
-fault_of join.Broken = Migrate migration.Broken
-fault_of join.Disk = Migrate migration.Disk
+abbrev pub cli_fault_of : JoinFault → CliFault
+cli_fault_of join.Memory = Memory
+cli_fault_of (join.BadSlip number) = BadSlip number
+cli_fault_of join.OtherPlan = Migrate migration.OtherPlan
+cli_fault_of join.Broken = Migrate migration.Broken
+cli_fault_of join.Disk = Migrate migration.Disk

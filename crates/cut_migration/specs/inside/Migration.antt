@@ -14,10 +14,10 @@ use Rattle.cut_journal.specs.Journal.{JournalValue}
 use Rattle.cut_migration.specs.Migration.{moved}
 
 -- the fault of an append, as a migration reports it; an append has no other faults than these three
-abbrev pub fault_of : JournalFault → MigrateFault
-fault_of journal.Disk = Disk
-fault_of journal.Broken = Broken
-fault_of fault = OtherPlan
+abbrev pub migrate_fault_of : JournalFault → MigrateFault
+migrate_fault_of journal.Disk = Disk
+migrate_fault_of journal.Broken = Broken
+migrate_fault_of fault = OtherPlan
 
 -- how it ends: the slip is true and was taken; or why it was not
 abbrev pub MovesOne : {T D : Type 0} → Result T MigrateFault → Values → ℕ → Slip → JournalValue D → JournalValue D

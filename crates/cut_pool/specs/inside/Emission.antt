@@ -26,9 +26,9 @@ EmitsStudy whole (Err (Write fault)) old new =
 EmitsStudy whole (Err (Row fault)) old new = WrotePrefix whole old new
 
 -- how the writing of a table ended, by how the sending of its lines did, and by how many bytes were sent then
-abbrev pub emitted : {E : Type 0} → Result ⊤ E → ℕ → Result ℕ E
-emitted (Ok done) sent = Ok sent
-emitted (Err fault) sent = Err fault
+abbrev pub emit_result_of : {E : Type 0} → Result ⊤ E → ℕ → Result ℕ E
+emit_result_of (Ok done) sent = Ok sent
+emit_result_of (Err fault) sent = Err fault
 
 -- the header, and the line of each cell over the slips that the study began with
 abbrev pub lines_of : Values → List Slip → Table

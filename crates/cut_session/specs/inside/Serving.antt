@@ -72,7 +72,7 @@ LeavesSending fault other old new = ⊥
 abbrev pub conveyed : List ℕ → List ℕ → Traffic → Traffic
 conveyed taken given t = record { taken = t.taken ++ taken; given = t.given ++ given; ends = t.ends }
 
--- a line over which these bytes were sent, and these read
+-- a counting writer by which these bytes were sent, and these read
 abbrev pub served : Sending → List ℕ → List ℕ → Sending
 served s out given = record {
   wire = s.wire;
@@ -94,7 +94,7 @@ pub record IsServing (hall : HallValue) (low high : View) (r : Reading) (request
   pub few : length out ≤ longest_reply * length messages
   pub line : now ≡ served old out (stream ++ piece)
 
--- how a session ended over a line that had sent nothing before it
+-- how a session ended by a counting writer that had sent nothing before it
 abbrev pub ConcludesTable : HallValue → View → View → SessionEnd → Sending → Sending → Type 0
 ConcludesTable hall low high end old new = EndsSession hall low high end old.log new.log × (new.wire ≡ old.wire)
 

@@ -21,10 +21,10 @@ abbrev pub slips_at : Values → List Piece → List Slip
 slips_at v ps = map (slip_at v) ps
 
 -- the fault of an append, as a run of a share reports it; an append has no other faults than these
-abbrev pub fault_of : JournalFault → ShareFault
-fault_of journal.Disk = Disk
-fault_of journal.Broken = Broken
-fault_of fault = OtherPlan
+abbrev pub share_fault_of : JournalFault → ShareFault
+share_fault_of journal.Disk = Disk
+share_fault_of journal.Broken = Broken
+share_fault_of fault = OtherPlan
 
 -- how the appends of the results of pieces end: all are kept; or the journal is broken and takes none; or the disk
 -- failed at one of them

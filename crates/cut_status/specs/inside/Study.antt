@@ -26,10 +26,10 @@ IsFaultOver v slips (BadSlip number) = IsFirstBad v slips number
 IsFaultOver v slips fault = ⊥
 
 -- the fault of a journal, as one of a status
-abbrev pub fault_of : JournalFault → StatusFault
-fault_of journal.Memory = Memory
-fault_of (journal.Damaged number) = Damaged number
-fault_of fault = Damaged 0
+abbrev pub status_fault_of : JournalFault → StatusFault
+status_fault_of journal.Memory = Memory
+status_fault_of (journal.Damaged number) = Damaged number
+status_fault_of fault = Damaged 0
 
 -- what bytes are read as, by the slips before and what is still to be read
 abbrev pub after_slips : List Slip → Result (List Slip) JournalFault → Result (List Slip) JournalFault

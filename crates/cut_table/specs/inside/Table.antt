@@ -38,8 +38,8 @@ abbrev pub IsWithheld : Contents → ℕ → RowFault → Contents → Type 0
 IsWithheld l n fault now = AreGiven l n now × IsRowFault l n fault
 
 -- how the writing of a table ended, by how the sending of its rows did, and by how many bytes were sent then
-abbrev pub emitted : Result ⊤ (RowsFault RowFault) → ℕ → Result ⊤ TableFault
-emitted (Ok done) sent = Ok done
-emitted (Err (Unsent fault)) sent = Err (Write fault)
-emitted (Err (Row (row.NotDone cell))) sent = Err (NotDone cell)
-emitted (Err (Row row.Memory)) sent = Err (Memory sent)
+abbrev pub table_result_of : Result ⊤ (RowsFault RowFault) → ℕ → Result ⊤ TableFault
+table_result_of (Ok done) sent = Ok done
+table_result_of (Err (Unsent fault)) sent = Err (Write fault)
+table_result_of (Err (Row (row.NotDone cell))) sent = Err (NotDone cell)
+table_result_of (Err (Row row.Memory)) sent = Err (Memory sent)

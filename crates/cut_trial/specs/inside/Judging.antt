@@ -7,17 +7,17 @@ use Rattle.cut_draws.specs.Source.{Source}
 use Rattle.cut_detector.specs.Rule.{rule_of}
 use Rattle.cut_detector.specs.declared.proposal.Proposal.{Proposal}
 use Rattle.cut_fields.specs.declared.version.Version.{Version}
-use Rattle.cut_arrivals.specs.Hearing.{Hearing, proposal_at}
-use Rattle.cut_receivers.specs.declared.finding.Finding.{Finding}
+use Rattle.cut_arrivals.specs.Reception.{Reception, proposal_at}
+use Rattle.cut_receivers.specs.declared.lane_verdict.LaneVerdict.{LaneVerdict}
 use Rattle.cut_receivers.specs.declared.receivers.Receivers.{Receivers}
-use Rattle.cut_receivers.specs.Findings.{members_at, has_bit, flagged, Finds}
-use Rattle.cut_receivers.specs.Heard.{HasHeard}
+use Rattle.cut_receivers.specs.LaneVerdicts.{members_at, has_bit, flagged, IsVerdictOn}
+use Rattle.cut_receivers.specs.Received.{HasReceived}
 use Rattle.cut_trial.specs.inside.Counted.{IsJudging}
-use Rattle.cut_trial.specs.declared.judges.Found.{Found}
+use Rattle.cut_trial.specs.declared.receiver_judge.PlacedVerdict.{PlacedVerdict}
 use Rattle.cut_trial.specs.declared.input.TrialInput.{TrialInput}
 use Rattle.cut_trial.specs.declared.alerts.Alerts.{Alerts}
 use Rattle.cut_trial.specs.declared.replays.Replay.{Replay}
-use Rattle.cut_trial.specs.declared.judges.Judges.{Judges}
+use Rattle.cut_trial.specs.declared.receiver_judge.ReceiverJudge.{ReceiverJudge}
 use Rattle.cut_outcome.specs.Outcome.{receiver_proposal, IsPlaced}
 
 -- what receiver j proposes if these alerts are raised
@@ -33,34 +33,37 @@ pub record BelongsTo (study : TrialInput) (cell : Cell) (x : Replay) : Type 0 wh
   pub layout : x.detector.layout ≡ study.rings.now
   pub rule : x.detector.rule ≡ rule_of cell.k cell.h cell.l study.plan.now.implicit
 
--- judges judge a cell of a study: their detector replays it, and they report places as the plan's version asks
-pub record AreFor (study : TrialInput) (cell : Cell) (x : Judges) : Type 0 where
+-- this judge is for a cell of a study: its detector replays it, and it reports places as the plan's version asks
+pub record AreFor (study : TrialInput) (cell : Cell) (x : ReceiverJudge) : Type 0 where
   pub replays : BelongsTo study cell x.replays
   pub version : x.outcome.version ≡ version_of study.plan.now.failing
 
--- judges of a cell of a study, and draws of the source that the alerts' blocks are of
-pub record AreReady (x : Alerts) (blocks : Source) (judges : Judges) (d : Source) : Type 0 where
-  pub fit : AreFor x.study x.cell judges
+-- a judge for a cell of a study, and draws of the source that the alerts' blocks are of
+pub record AreReady (x : Alerts) (blocks : Source) (receiver_judge : ReceiverJudge) (d : Source) : Type 0 where
+  pub fit : AreFor x.study x.cell receiver_judge
   pub draws : d ≡ blocks
 
 -- there is a receiver at an index, and those before it have been judged
-pub record IsNext (x : Alerts) (roles : Assignment) (d : Source) (receivers : List ℕ) (index : ℕ) (judges : Judges)
+pub record IsNext (x : Alerts) (roles : Assignment) (d : Source) (receivers : List ℕ) (index : ℕ)
+    (receiver_judge : ReceiverJudge)
     : Type 0 where
   pub some : index < length receivers
-  pub before : IsJudging roles judges.outcome (proposals_to x d receivers index)
+  pub before : IsJudging roles receiver_judge.outcome (proposals_to x d receivers index)
 
--- what was found of a receiver that hears this, compared with these expected members: what it proposes, if the closing
--- of its lane is in no doubt, and at which place, where a plan's version asks for it
-pub record IsFound (x : Hearing) (version : Version) (wanted : List ℕ) (doubt : Bool) (found : Found) : Type 0 where
-  pub finds : Finds wanted (members_at x) found.finding
-  pub certain : IsTrue doubt → found.finding ≡ Finding.Doubtful
-  pub placed : IfSome found.place (λ n. doubt ≡ false
+-- what was found of a receiver of this reception, compared with these expected members: what it proposes, if the
+-- proposal time of its lane is in no doubt, and at which place, where a plan's version asks for it
+pub record IsPlacedVerdict (x : Reception) (version : Version) (wanted : List ℕ) (doubt : Bool)
+    (placed_verdict : PlacedVerdict) : Type 0 where
+  pub finds : IsVerdictOn wanted (members_at x) placed_verdict.lane_verdict
+  pub certain : IsTrue doubt → placed_verdict.lane_verdict ≡ LaneVerdict.Doubtful
+  pub placed : IfSome placed_verdict.place (λ n. doubt ≡ false
       → IfSome (proposal_at x) (λ p. IsPlaced version n (Some p)))
-  pub few : IfSome found.place (λ n. n < 2 ^ 32)
+  pub few : IfSome placed_verdict.place (λ n. n < 2 ^ 32)
 
--- that is what was found of it in its lane, by the times of four receivers, over nodes of which some are wanted
-pub record IsFoundIn (x : Hearing) (version : Version) (subjects : List ℕ) (wanted : List Bool) (times : Receivers)
-    (lane : ℕ) (f : Found) : Type 0 where
+-- that is what was found of it in its lane, by the times of four receivers, over candidates of which some are wanted
+pub record IsPlacedVerdictIn (x : Reception) (version : Version) (subjects : List ℕ) (wanted : List Bool)
+    (times : Receivers)
+    (lane : ℕ) (f : PlacedVerdict) : Type 0 where
   pub few : lane < 4
-  pub heard : HasHeard x subjects lane times
-  pub found : IsFound x version (flagged subjects wanted) (has_bit times.closing.doubt lane) f
+  pub heard : HasReceived x subjects lane times
+  pub placed_verdict : IsPlacedVerdict x version (flagged subjects wanted) (has_bit times.proposal_time.doubt lane) f

@@ -17,8 +17,9 @@ test c e = is_alerted c.args.rings.now c.args.roles.now e
 
 known : (c : goal.Else-is_err) (P : List Edge → Type 0)
     → P (filter (test c) (all_edges c.args.k c.args.rings.now.nodes))
-    → OnOk c.fill-filled.result (P c.fill-filled.new.list.items)
-known c P of_all = on_ok_weaker c.fill-filled.result (λ same. subst P (sym same) of_all) c.fill-filled.ensures
+    → OnOk c.list_alerts-filled.result (P c.list_alerts-filled.new.list.items)
+known c P of_all = on_ok_weaker c.list_alerts-filled.result (λ same. subst P (sym same) of_all)
+    c.list_alerts-filled.ensures
 
 pub returns-else-is_err-clause-within : goal.returns-else-is_err-clause-within
 returns-else-is_err-clause-within c =

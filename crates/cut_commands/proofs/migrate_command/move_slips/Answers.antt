@@ -9,6 +9,6 @@ pub returns-in-Ok-claim : goal.returns-in-Ok-claim
 returns-in-Ok-claim g c =
     let old = g.N.Disk.log c.args.disk in
     let mid = g.N.Disk.log c.in-Ok-claim.journal.disk in
-    since_claimed c.args.plan.now c.args.slips.now old mid (g.N.Disk.log c.fill.result.disk)
+    since_claimed c.args.plan.now c.args.slips.now old mid (g.N.Disk.log c.fill_journal.result.disk)
     (subst (λ (u : Values). Goes (λ n. n) (IsClaimed u) old mid) c.in-Ok.ensures.value c.in-Ok-claim.ensures.made)
-    c.fill.result.count c.fill.ensures
+    c.fill_journal.result.count c.fill_journal.ensures

@@ -6,8 +6,8 @@ use Rattle.cut_journal.proofs.Moments.{weaker, and_then}
 use Rattle.cut_journal.proofs.Makings.{IsNone, none_new}
 use Rattle.cut_journal.proofs.new_study.write_new.Goals as goal
 
-pub returns-in_err-close : goal.returns-in_err-close
-returns-in_err-close g c =
+pub returns-in_err-close_study_gate : goal.returns-in_err-close_study_gate
+returns-in_err-close_study_gate g c =
     grind (arith, weaker IsNone (IsNewStudy c.args.file.study.now) (none_new c.args.file.study.now))
 
 pub returns-in_err-write_rest : goal.returns-in_err-write_rest
@@ -17,23 +17,24 @@ returns-in_err-write_rest g c =
 pub returns : goal.returns
 returns g c = record {
   writes = record {
-    known = c.open.ensures.opens.known ∙ c.in_ok-write_rest.ensures.writes.known ∙ c.in_ok-close.ensures.closes.known;
-    state = λ known. (let closed = c.in_ok-close.ensures.closes.state known in
-        let shut = c.in_ok-close.ensures.closes.known ∙ known in
+    known = c.open_study_gate.ensures.opens.known ∙ c.in_ok-write_rest.ensures.writes.known
+        ∙ c.in_ok-close_study_gate.ensures.closes.known;
+    state = λ known. (let closed = c.in_ok-close_study_gate.ensures.closes.state known in
+        let shut = c.in_ok-close_study_gate.ensures.closes.known ∙ known in
         let rest = c.in_ok-write_rest.ensures.writes.state shut in
-        let opened = c.open.ensures.opens.state (c.in_ok-write_rest.ensures.writes.known ∙ shut) in record {
+        let opened = c.open_study_gate.ensures.opens.state (c.in_ok-write_rest.ensures.writes.known ∙ shut) in record {
           moments = and_then (IsNewStudy c.args.file.study.now) (on (g.D.Disk.log c.args.disk.now))
-              (on (g.D.Disk.log c.write_rest.new.disk)) (on (g.D.Disk.log c.open.new.disk))
+              (on (g.D.Disk.log c.write_rest.new.disk)) (on (g.D.Disk.log c.open_study_gate.new.disk))
               (weaker IsNone (IsNewStudy c.args.file.study.now) (none_new c.args.file.study.now)
               (on (g.D.Disk.log c.args.disk.now)) (on (g.D.Disk.log c.write_rest.new.disk))
-              (and_then IsNone (on (g.D.Disk.log c.args.disk.now)) (on (g.D.Disk.log c.close.new.disk))
+              (and_then IsNone (on (g.D.Disk.log c.args.disk.now)) (on (g.D.Disk.log c.close_study_gate.new.disk))
               (on (g.D.Disk.log c.write_rest.new.disk)) closed.moments rest.moments))
               opened.moments;
           durable = opened.durable;
           made = opened.made;
           file = opened.file;
         });
-    faults = c.open.ensures.opens.faults ∙ ap (counted c.open.result)
-        (c.in_ok-write_rest.ensures.writes.faults ∙ c.in_ok-close.ensures.closes.faults);
+    faults = c.open_study_gate.ensures.opens.faults ∙ ap (counted c.open_study_gate.result)
+        (c.in_ok-write_rest.ensures.writes.faults ∙ c.in_ok-close_study_gate.ensures.closes.faults);
   };
 }

@@ -19,8 +19,8 @@ loop-i-preserved c =
     let good = (c.if-not-is_good.ensures.good (take i slips) c.loop-i.invariant.over.exactly).0 refl in
     let within : i < length slips = omega arith in
     record {
-      over = rw (take_more slips i no_slip within) (over_more c.args.plan.now (take i slips) c.loop-i.kept.trials
-          c.add.new.self.trials c.loop-i.kept.sums.items c.add.new.self.sums.items (get_or slips i no_slip)
+      over = rw (take_more slips i no_slip within) (over_more c.args.plan.now (take i slips) c.loop-i.held_trials.trials
+          c.add.new.self.trials c.loop-i.held_trials.sums.items c.add.new.self.sums.items (get_or slips i no_slip)
           c.loop-i.invariant.over good (c.if-not-is_good.ensures.fits refl).few c.in_ok-add.ensures.ok);
       good = good_more c.args.plan.now slips i no_slip within c.loop-i.invariant.good good;
     }

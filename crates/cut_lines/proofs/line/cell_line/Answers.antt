@@ -28,4 +28,4 @@ returns-clause-line c =
     cc (c.from.ensures, c.from-2.ensures, c.from-3.ensures, c.from-4.ensures, repeats, c.ppm_of.ensures) in
     let line : comma_line c.as_slice-2.result.now ≡ line_with v c.args.number x =
     ap (λ (xs : List ℕ). comma_line xs) (written ∙ by_cell) ∙ ap (λ (d : Cell). comma_line (columns v d x)) cell_is in
-    subst (λ (xs : List ℕ). IfOk c.row.result (λ line. line.items ≡ xs)) line c.row.ensures.text
+    subst (λ (xs : List ℕ). IfOk c.write_row.result (λ line. line.items ≡ xs)) line c.write_row.ensures.text

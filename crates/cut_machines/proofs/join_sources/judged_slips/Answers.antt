@@ -5,5 +5,5 @@ use Rattle.cut_machines.proofs.join_sources.judged_slips.Goals as goal
 pub returns-clause-stops : goal.returns-clause-stops
 returns-clause-stops g c =
     judged_stops (λ (e : Unjoined). e.fault) (g.F.Files.log c.args.files.now) _ (paths_of c.args.paths.now)
-    c.args.plan.now c.in_ok-slips_of_all.field-0.items c.judged.result c.in_ok-slips_of_all.ensures.held
-    c.in_ok-slips_of_all.ensures.read c.judged.ensures.stops
+    c.args.plan.now c.in_ok-slips_of_all.field-0.items c.check_slips.result c.in_ok-slips_of_all.ensures.held
+    c.in_ok-slips_of_all.ensures.read c.check_slips.ensures.stops

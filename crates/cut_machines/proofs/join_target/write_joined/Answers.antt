@@ -7,8 +7,8 @@ pub returns-in-Ok-clause-left : goal.returns-in-Ok-clause-left
 returns-in-Ok-clause-left g c = λ known.
     let made = c.in-Ok.ensures.made.state known in
     let after = c.in-Ok.ensures.made.known ∙ known in
-    left_filled c.fill.result.count c.args.plan.now c.args.slips.now (on (g.N.Disk.log c.args.disk))
-    (on (g.N.Disk.log c.in-Ok.journal.disk)) (on (g.N.Disk.log c.fill.result.disk))
+    left_filled c.fill_journal.result.count c.args.plan.now c.args.slips.now (on (g.N.Disk.log c.args.disk))
+    (on (g.N.Disk.log c.in-Ok.journal.disk)) (on (g.N.Disk.log c.fill_journal.result.disk))
     made.0 made.1.none made.1.made made.1.begun
-    (c.fill.ensures.part after) (c.fill.ensures.all after)
-    c.fill.ensures.stops
+    (c.fill_journal.ensures.part after) (c.fill_journal.ensures.all after)
+    c.fill_journal.ensures.stops

@@ -5,7 +5,7 @@ use Rattle.cut_messages.proofs.frame.send_parts.Goals as goal
 pub returns-in-Ok : goal.returns-in-Ok
 returns-in-Ok g c =
     let log = g.W.Wire.log in
-    sends_after c.send-in-Ok.result (sending log c.args.line.now) (sending log c.send.new.self)
+    sends_after c.send-in-Ok.result (sending log c.args.writer.now) (sending log c.send.new.self)
     (sending log c.send-in-Ok.new.self) _ c.args.payload.now
     (rw (c.as_slice.ensures, c.head_of-head.ensures) at c.in-Ok.ensures)
     c.send-in-Ok.ensures
@@ -13,5 +13,5 @@ returns-in-Ok g c =
 pub returns-in-Err : goal.returns-in-Err
 returns-in-Err g c =
     let log = g.W.Wire.log in
-    cut_before c.in-Err.fault (sending log c.args.line.now) (sending log c.send.new.self) _ c.args.payload.now
+    cut_before c.in-Err.fault (sending log c.args.writer.now) (sending log c.send.new.self) _ c.args.payload.now
     (rw (c.as_slice.ensures, c.head_of-head.ensures) at c.in-Err.ensures)

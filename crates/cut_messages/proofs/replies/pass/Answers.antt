@@ -21,6 +21,6 @@ pub returns-in-Fault : goal.returns-in-Fault
 returns-in-Fault g c = (
   alone c.args.message.now,
   c.in-Fault.is,
-  c.number_in.ensures ∙ ap (from_be_bytes w16) c.as_slice-payload.ensures,
+  c.read_fault_number.ensures ∙ ap (from_be_bytes w16) c.as_slice-payload.ensures,
   sym (wrote_none (g.O.Wire.log c.args.output.now)),
 )

@@ -87,6 +87,6 @@ returns-clause-ends g c =
     let holds = c.is_true.ensures.0 (search rules) in
     subst (λ (e : MigrateFault). MovesOne {T = ⊤} (Err e) target.plan.now c.args.number c.args.slip.now
     c.args.journal.now c.append.new.self)
-    (sym c.fault_of.ensures)
+    (sym c.migrate_fault_of.ensures)
     (append_failed c.in-Err.fault target.plan.now c.args.number c.args.slip.now (slip_of c.in-Ok.result)
     c.args.journal.now c.append.new.self others other broken left is holds)

@@ -7,11 +7,11 @@ returns-clause-emits g c =
     let log = g.W.Wire.log in
     let rows = c.args.rows.now in
     let after = c.send_rows-result.new.rows in
-    let line = c.send_rows-result.new.line in
-    rw (c.emitted.ensures, c.sent.ensures)
+    let writer = c.send_rows-result.new.writer in
+    rw (c.emit_result_of.ensures, c.sent.ensures)
     (emits_at log rows.opened.now.plan rows.opened.now.base rows.pass.ghost_name rows.pass.now after.pass.ghost_name
-    after.pass.now c.send_rows-result.result c.args.wire.now line.wire.now _ _ line.wire.ghost_name line.sent
-    (sending log c.new-line.result) c.new-line.ensures c.send_rows-result.ensures assumption)
+    after.pass.now c.send_rows-result.result c.args.wire.now writer.wire.now _ _ writer.wire.ghost_name writer.sent
+    (sending log c.new-writer.result) c.new-writer.ensures c.send_rows-result.ensures assumption)
 
 pub returns-clause-pass : goal.returns-clause-pass
 returns-clause-pass g c =
@@ -19,8 +19,8 @@ returns-clause-pass g c =
     let rows = c.args.rows.now in
     let after = c.send_rows-result.new.rows in
     (kept rows.opened.now.plan rows.opened.now.base rows.pass.ghost_name rows.pass.now after.pass.ghost_name
-    after.pass.now c.send_rows-result.result (sending log c.new-line.result)
-    (sending log c.send_rows-result.new.line) c.send_rows-result.ensures).0
+    after.pass.now c.send_rows-result.result (sending log c.new-writer.result)
+    (sending log c.send_rows-result.new.writer) c.send_rows-result.ensures).0
 
 pub returns-clause-own : goal.returns-clause-own
 returns-clause-own g c =
@@ -28,15 +28,15 @@ returns-clause-own g c =
     let rows = c.args.rows.now in
     let after = c.send_rows-result.new.rows in
     (kept rows.opened.now.plan rows.opened.now.base rows.pass.ghost_name rows.pass.now after.pass.ghost_name
-    after.pass.now c.send_rows-result.result (sending log c.new-line.result)
-    (sending log c.send_rows-result.new.line) c.send_rows-result.ensures).1
+    after.pass.now c.send_rows-result.result (sending log c.new-writer.result)
+    (sending log c.send_rows-result.new.writer) c.send_rows-result.ensures).1
 
 pub returns-clause-made : goal.returns-clause-made
 returns-clause-made g c =
     let log = g.W.Wire.log in
     let rows = c.args.rows.now in
     let after = c.send_rows-result.new.rows in
-    rw c.emitted.ensures
+    rw c.emit_result_of.ensures
     (made_all rows.opened.now.plan rows.opened.now.base rows.pass.ghost_name rows.pass.now after.pass.ghost_name
-    after.pass.now c.send_rows-result.result c.sent.result (sending log c.new-line.result)
-    (sending log c.send_rows-result.new.line) c.send_rows-result.ensures)
+    after.pass.now c.send_rows-result.result c.sent.result (sending log c.new-writer.result)
+    (sending log c.send_rows-result.new.writer) c.send_rows-result.ensures)

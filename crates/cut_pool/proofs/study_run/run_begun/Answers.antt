@@ -27,9 +27,9 @@ returns-clause-ended g c =
     c.is_some-has_journal.ensures ∙ is_some_copied c.journal.result c.args.begun.book.journal c.journal.ensures.value
     ∙ sym c.journal.ensures.has in
     let concludes : Concludes c.run-sent.result.0 c.run-sent.result.1 c.args.begun.book.state.has_journal
-    c.concluded.result =
-    subst (λ (h : Bool). Concludes c.run-sent.result.0 c.run-sent.result.1 h c.concluded.result) has
-    c.concluded.ensures.concludes in
+    c.conclude_run.result =
+    subst (λ (h : Bool). Concludes c.run-sent.result.0 c.run-sent.result.1 h c.conclude_run.result) has
+    c.conclude_run.ensures.concludes in
     let old = g.W.Wire.log c.args.wire.now in
     let new = g.W.Wire.log c.run-sent.new.wire in
     let emits : EmitsStudy (table_over v c.args.begun.book.state.ledger.base) c.run-sent.result.0 old new =
@@ -47,7 +47,7 @@ returns-clause-ended g c =
     c.in_ok-hall.ensures.opening c.run-sent.ensures.opened in
     ended v c.args.begun.book.state.ledger.base c.args.begun.book.state.has_journal c.args.begun.book.size
     c.run-sent.result.0 c.run-sent.result.1
-    c.concluded.result old new c.args.begun.good emits c.run-sent.ensures.one opened calls concludes
+    c.conclude_run.result old new c.args.begun.good emits c.run-sent.ensures.one opened calls concludes
 
 pub returns-clause-takes : goal.returns-clause-takes
 returns-clause-takes g c =
@@ -57,15 +57,15 @@ returns-clause-takes g c =
     c.is_some-has_journal.ensures ∙ is_some_copied c.journal.result c.args.begun.book.journal c.journal.ensures.value
     ∙ sym c.journal.ensures.has in
     let concludes : Concludes c.run-sent.result.0 c.run-sent.result.1 c.args.begun.book.state.has_journal
-    c.concluded.result =
-    subst (λ (h : Bool). Concludes c.run-sent.result.0 c.run-sent.result.1 h c.concluded.result) has
-    c.concluded.ensures.concludes in
+    c.conclude_run.result =
+    subst (λ (h : Bool). Concludes c.run-sent.result.0 c.run-sent.result.1 h c.conclude_run.result) has
+    c.conclude_run.ensures.concludes in
     let old = g.W.Wire.log c.args.wire.now in
     let new = g.W.Wire.log c.run-sent.new.wire in
     takes v c.args.begun.book.state.ledger.base c.args.begun.book.state.has_journal c.args.begun.book.size
     c.run-sent.result.0
     c.run-sent.result.1
-    c.concluded.result old new c.args.begun.good
+    c.conclude_run.result old new c.args.begun.good
     (subst (λ (b : List Slip). EmitsStudy (table_over v b) c.run-sent.result.0 old new) c.in_ok-hall.ensures.base
     (subst (λ (p : Values). EmitsStudy (table_over p base) c.run-sent.result.0 old new) c.in_ok-hall.ensures.plan
     c.run-sent.ensures.emits))

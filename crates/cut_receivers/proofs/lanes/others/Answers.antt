@@ -9,18 +9,19 @@ pub loop-place-preserved : goal.loop-place-preserved
 loop-place-preserved c i low =
     let place : ℕ = c.loop-place.place in
     let t : ℕ = slice_index c.args.time i in
-    let highs : List ℕ = lane i c.args.highs.now in
+    let stable_at : List ℕ = lane i c.args.stable_at.now in
     let flags : List Bool = c.args.wanted.now in
     let high : slice_index
-    (slice_index_or c.args.highs.now place []) i ≡ slice_index highs place = value_lane i place c.args.highs.now
+    (slice_index_or c.args.stable_at.now place []) i ≡ slice_index stable_at place = value_lane i place
+    c.args.stable_at.now
     c.loop-place-test.true in
     elim c.if-wanted-place.branch [
       | then-wanted-place w ↦ ap (λ (v : List ℕ). slice_index v i) w.next-is ∙ w.marked_late-next.ensures i low
           ∙ ap (λ (h : ℕ). cond (nat_lt t h) 1 (slice_index c.loop-place.marks i)) high
-          ∙ mark_late t highs flags place (slice_index c.loop-place.marks i) w.if-wanted-place.true
+          ∙ mark_late t stable_at flags place (slice_index c.loop-place.marks i) w.if-wanted-place.true
           (c.loop-place.invariant i low)
       | else-wanted-place w ↦ ap (λ (v : List ℕ). slice_index v i) w.next-is ∙ w.marked_ended-next.ensures i low
           ∙ ap (λ (h : ℕ). cond (nat_lt t h) (slice_index c.loop-place.marks i) 1) high
-          ∙ mark_ended t highs flags place (slice_index c.loop-place.marks i) w.if-wanted-place.false
+          ∙ mark_ended t stable_at flags place (slice_index c.loop-place.marks i) w.if-wanted-place.false
           (c.loop-place.invariant i low)
     ]

@@ -1,10 +1,10 @@
 use Rattle.std.proofs.Common.{◌≡◌, ℕ, ◌<◌, cond, slice_index}
 use Rattle.cut_lanes.specs.Lanes.{lane}
-use Rattle.cut_receivers.specs.inside.Findings.{is_other}
+use Rattle.cut_receivers.specs.inside.LaneVerdicts.{is_other}
 use Rattle.cut_receivers.proofs.lanes.others.Given as goal
 
--- whether some node so far differs from its flag
+-- whether some candidate so far differs from its flag
 abbrev pub invariant-loop-place : goal.invariant-loop-place
 invariant-loop-place l =
     (i : ℕ) → i < 4 → slice_index l.marks i ≡ cond (is_other (slice_index l.fn.time i)
-    (lane i l.highs) l.wanted l.place) 1 0
+    (lane i l.stable_at) l.wanted l.place) 1 0

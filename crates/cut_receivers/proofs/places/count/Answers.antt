@@ -8,6 +8,6 @@ pub counted-more-requires : goal.counted-more-requires
 counted-more-requires c i low =
     grind (arith, count_by-le-length, length-take)
 
-pub loop-slot-preserved : goal.loop-slot-preserved
-loop-slot-preserved c i low =
+pub loop-key_place-preserved : goal.loop-key_place-preserved
+loop-key_place-preserved c i low =
     grind (arith, common_steps)

@@ -1,10 +1,10 @@
 use Rattle.std.proofs.Common.{◌≡◌, vec_capacity}
-use Rattle.cut_receivers.specs.inside.Times.{AreHighsTo}
+use Rattle.cut_receivers.specs.inside.Times.{AreStableAtTo}
 use Rattle.cut_receivers.proofs.receivers.gain.Given as goal
 
--- the highs of the nodes so far, and of those that gain no ring
+-- the highs of the candidates so far, and of those that gain no ring
 abbrev pub invariant-loop-place : goal.invariant-loop-place
 invariant-loop-place l = record {
-  highs : AreHighsTo l.images l.place l.highs;
+  stable_at : AreStableAtTo l.images l.place l.stable_at;
   values : vec_capacity l.values ≡ vec_capacity l.initial.values;
 }

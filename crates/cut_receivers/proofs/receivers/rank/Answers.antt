@@ -2,24 +2,24 @@ use Rattle.std.proofs.lemmas.Grind.{common_steps}
 use Rattle.std.proofs.Common.{arith}
 use Rattle.cut_lists.proofs.Maps.{map-map}
 use Rattle.cut_receivers.proofs.Choices.{lane_more}
-use Rattle.cut_receivers.proofs.Placed.{node_read}
+use Rattle.cut_receivers.proofs.Placed.{candidate_read}
 use Rattle.cut_receivers.proofs.receivers.rank.Goals as goal
 
-pub times-requires-clause-node : goal.times-requires-clause-node
-times-requires-clause-node c =
-    grind (arith, node_read)
+pub times-requires-clause-candidate : goal.times-requires-clause-candidate
+times-requires-clause-candidate c =
+    grind (arith, candidate_read)
 
-pub loop-node-init : goal.loop-node-init
-loop-node-init c = grind arith
+pub loop-candidate-init : goal.loop-candidate-init
+loop-candidate-init c = grind arith
 
-pub loop-node-preserved : goal.loop-node-preserved
-loop-node-preserved c =
+pub loop-candidate-preserved : goal.loop-candidate-preserved
+loop-candidate-preserved c =
     grind (arith, common_steps, lane_more)
 
-pub returns-clause-lows : goal.returns-clause-lows
-returns-clause-lows c i low =
+pub returns-clause-reported_at : goal.returns-clause-reported_at
+returns-clause-reported_at c i low =
     grind (arith, common_steps, map-map)
 
-pub returns-clause-highs : goal.returns-clause-highs
-returns-clause-highs c =
+pub returns-clause-stable_at : goal.returns-clause-stable_at
+returns-clause-stable_at c =
     grind arith

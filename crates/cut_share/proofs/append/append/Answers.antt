@@ -39,7 +39,7 @@ returns-in-Err-clause-ends g c =
     let other : IsErrOf {T = ℕ} (Err c.in-Err.fault) journal.OtherPlan → ⊥ =
     λ is. (c.in-Err.ensures.other_plan.0 is).1 same in
     subst (λ (e : ShareFault). EndsAppends {T = ⊤} g.D.Disk.log (Err e) log.plan
-    (done_of (c.args.task.now ∷ [])) log new) (sym c.fault_of.ensures)
+    (done_of (c.args.task.now ∷ [])) log new) (sym c.share_fault_of.ensures)
     (task_failed ⊤ g.D.Disk.log c.in-Err.fault log.plan c.args.task.now c.in-Some.result
     log new c.in-Some.is c.requires others other broken left
     (λ known. (c.stays_readable.ensures.sound known, c.in-Err.ensures.appends.state known)))

@@ -6,7 +6,7 @@ use Rattle.cut_plan.specs.Values.{Values}
 use Rattle.cut_outcome.specs.declared.piece.Piece.{Piece}
 use Rattle.cut_ledger.specs.declared.slip.Slip.{Slip}
 use Rattle.cut_share.specs.declared.fault.ShareFault.{ShareFault}
-use Rattle.cut_share.specs.declared.task.Task.{Task}
+use Rattle.cut_share.specs.declared.piece_task.PieceTask.{PieceTask}
 use Rattle.cut_share.specs.Appending.{Adds, NoneFailed}
 use Rattle.cut_share.specs.inside.Running.{EndsAppends, slip_at, slips_at}
 use Rattle.cut_share.specs.inside.Tasks.{IsRun, done_of}
@@ -15,9 +15,9 @@ use Rattle.cut_share.proofs.append.append_all.Goals as goal
 
 pub append-requires : goal.append-requires
 append-requires g c =
-    let task : Task = c.task-item.result in
+    let task : PieceTask = c.task-item.result in
     let run : IsRun c.args.journal.now.plan task =
-    subst (λ (x : Task). IsRun c.args.journal.now.plan x) (sym c.task-item.is)
+    subst (λ (x : PieceTask). IsRun c.args.journal.now.plan x) (sym c.task-item.is)
     (c.requires c.loop-task.task-index task c.loop-task-test.true) in
     subst (λ (v : Values). IsRun v task) (sym c.loop-task.invariant.added.plan) run
 
@@ -38,8 +38,8 @@ returns-in_err-append-clause-ends g c =
     let log = c.args.journal.now in
     let mid = c.loop-task.journal in
     let new = c.append.new.journal in
-    let task : Task = c.task-item.result in
-    let tasks : List Task = c.args.tasks.now in
+    let task : PieceTask = c.task-item.result in
+    let tasks : List PieceTask = c.args.tasks.now in
     let i : ℕ = c.loop-task.task-index in
     let one : EndsAppends {T = ⊤} g.D.Disk.log (Err c.in_err-append.field-0.0) mid.plan
     (done_of (task ∷ [])) mid new = c.in_err-append.ensures.ends in
@@ -55,8 +55,8 @@ loop-task-preserved g c =
     let log = c.args.journal.now in
     let mid = c.loop-task.journal in
     let new = c.append.new.journal in
-    let task : Task = c.task-item.result in
-    let tasks : List Task = c.args.tasks.now in
+    let task : PieceTask = c.task-item.result in
+    let tasks : List PieceTask = c.args.tasks.now in
     let i : ℕ = c.loop-task.task-index in
     let one : EndsAppends {T = ⊤} g.D.Disk.log (Ok tt) mid.plan (done_of (task ∷ [])) mid new =
     c.in_ok-append.ensures.ends in

@@ -5,7 +5,7 @@ use Rattle.cut_plan.specs.Values.{Values}
 use Rattle.cut_outcome.specs.declared.piece.Piece.{Piece}
 use Rattle.cut_ledger.specs.World.{times_in}
 use Rattle.cut_share.specs.declared.fault.ShareFault.{ShareFault}
-use Rattle.cut_share.specs.declared.task.Task.{Task}
+use Rattle.cut_share.specs.declared.piece_task.PieceTask.{PieceTask}
 use Rattle.cut_share.specs.inside.Batches.{EndsPieces, IsUpTo}
 use Rattle.cut_share.specs.inside.Pieces.{own_times}
 use Rattle.cut_share.specs.inside.Running.{EndsAppends}
@@ -28,18 +28,18 @@ returns-then-count-eq0-clause-ends g c =
     let held = c.loop-pieces.invariant in
     let start = c.args.pieces in
     let mid = c.loop-pieces.pieces in
-    let new = c.deal-count.new.pieces in
-    let none : c.deal-count.result ≡ 0 = c.if-count-eq0.true in
-    let low : c.deal-count.result < length c.loop-pieces.tasks =
+    let new = c.deal_pieces-count.new.pieces in
+    let none : c.deal_pieces-count.result ≡ 0 = c.if-count-eq0.true in
+    let low : c.deal_pieces-count.result < length c.loop-pieces.tasks =
     (let some = c.requires.some in let same = c.loop-pieces.auto.tasks in omega (arith, some, same, none)) in
     up_to_end g.D.Disk.log c.loop-pieces.is_whole start.share mid.share start.plan.now
     mid.plan.now (start.rest ∷ start.later.now) (mid.rest ∷ mid.later.now) (new.rest ∷ new.later.now)
     c.args.journal.now c.loop-pieces.journal held.share held.plan held.upto
     (λ t. sym (omega arith)
-    ∙ ap (λ k. times_in (pieces_of (take k c.deal-count.new.tasks)) t
+    ∙ ap (λ k. times_in (pieces_of (take k c.deal_pieces-count.new.tasks)) t
     + own_times mid.share mid.plan.now (new.rest ∷ new.later.now) t) (sym none)
-    ∙ c.deal-count.ensures.taken t)
-    (c.deal-count.ensures.none low)
+    ∙ c.deal_pieces-count.ensures.taken t)
+    (c.deal_pieces-count.ensures.none low)
 
 pub returns-in_err-is_done-clause-ends : goal.returns-in_err-is_done-clause-ends
 returns-in_err-is_done-clause-ends g c =
@@ -47,14 +47,14 @@ returns-in_err-is_done-clause-ends g c =
     let held = c.loop-pieces.invariant in
     let start = c.args.pieces in
     let mid = c.loop-pieces.pieces in
-    let new = c.deal-count.new.pieces in
+    let new = c.deal_pieces-count.new.pieces in
     let log = c.args.journal.now in
-    let tasks : List Task = c.run_batch.new.tasks in
-    let dealt : List Piece = pieces_of (take c.deal-count.result c.deal-count.new.tasks) in
+    let tasks : List PieceTask = c.run_batch.new.tasks in
+    let dealt : List Piece = pieces_of (take c.deal_pieces-count.result c.deal_pieces-count.new.tasks) in
     let are : pieces_of tasks ≡ dealt = c.run_batch.ensures.pieces in
     let deal = deal_of start.share mid.share start.plan.now mid.plan.now dealt (pieces_of tasks)
-    (mid.rest ∷ mid.later.now) (new.rest ∷ new.later.now) held.share held.plan are c.deal-count.ensures.own
-    c.deal-count.ensures.taken in
+    (mid.rest ∷ mid.later.now) (new.rest ∷ new.later.now) held.share held.plan are c.deal_pieces-count.ensures.own
+    c.deal_pieces-count.ensures.taken in
     let e : ShareFault = c.in_err-is_done.field-0.0 in
     let one : EndsAppends {T = Bool} g.D.Disk.log (Err e) c.loop-pieces.journal.plan
     (done_of tasks) c.loop-pieces.journal c.run_batch.new.journal = c.in_err-is_done.ensures.ends in
@@ -74,14 +74,14 @@ loop-pieces-preserved g c =
     let held = c.loop-pieces.invariant in
     let start = c.args.pieces in
     let mid = c.loop-pieces.pieces in
-    let new = c.deal-count.new.pieces in
+    let new = c.deal_pieces-count.new.pieces in
     let log = c.args.journal.now in
-    let tasks : List Task = c.run_batch.new.tasks in
-    let dealt : List Piece = pieces_of (take c.deal-count.result c.deal-count.new.tasks) in
+    let tasks : List PieceTask = c.run_batch.new.tasks in
+    let dealt : List Piece = pieces_of (take c.deal_pieces-count.result c.deal_pieces-count.new.tasks) in
     let are : pieces_of tasks ≡ dealt = c.run_batch.ensures.pieces in
     let deal = deal_of start.share mid.share start.plan.now mid.plan.now dealt (pieces_of tasks)
-    (mid.rest ∷ mid.later.now) (new.rest ∷ new.later.now) held.share held.plan are c.deal-count.ensures.own
-    c.deal-count.ensures.taken in
+    (mid.rest ∷ mid.later.now) (new.rest ∷ new.later.now) held.share held.plan are c.deal_pieces-count.ensures.own
+    c.deal_pieces-count.ensures.taken in
     let done : Bool = c.in_ok-is_done.is_done in
     let one : EndsAppends {T = Bool} g.D.Disk.log (Ok done) c.loop-pieces.journal.plan
     (done_of tasks) c.loop-pieces.journal c.run_batch.new.journal = c.in_ok-is_done.ensures.ends in
@@ -96,8 +96,8 @@ loop-pieces-preserved g c =
     c.loop-pieces.journal c.run_batch.new.journal (λ h. held.known ∙ h) held.upto deal.own deal.times
     c.in_ok-is_done.ensures.done two in
     record {
-      plan = c.deal-count.ensures.plan ∙ held.plan;
-      share = c.deal-count.ensures.share ∙ held.share;
+      plan = c.deal_pieces-count.ensures.plan ∙ held.plan;
+      share = c.deal_pieces-count.ensures.share ∙ held.share;
       upto = more;
       known = c.run_batch.ensures.known ∙ held.known;
       faults = c.in_ok-is_done.ensures.faults ∙ held.faults;

@@ -20,10 +20,10 @@ framed_row framed old new items n law same row few =
 
 pub returns-in-Err : goal.returns-in-Err
 returns-in-Err g c =
-    let framed = g.F.Framing.framed in
-    let t : Table = g.R.Rows.table c.args.rows.now in
-    let line : Sending = sending g.W.Wire.log c.args.line.now in
-    let new : Sending = sending g.W.Wire.log c.send.new.line in
+    let framed = g.F.Encoding.framed in
+    let t : Table = g.R.RowSource.table c.args.rows.now in
+    let writer : Sending = sending g.W.Wire.log c.args.writer.now in
+    let new : Sending = sending g.W.Wire.log c.send.new.writer in
     let header : framed c.header.result.now ≡ rows_to framed t 0 =
     ap framed c.header.ensures.text ∙ sym (header_only framed t) in
     record {
@@ -38,7 +38,7 @@ returns-in-Err g c =
       );
       ends = (
         g.met.R.Rows.begins c.args.rows.now,
-        subst (λ (l : List ℕ). Sends (Err c.in-Err.fault) l line new) header c.in-Err.ensures,
+        subst (λ (l : List ℕ). Sends (Err c.in-Err.fault) l writer new) header c.in-Err.ensures,
       );
     }
 
@@ -59,26 +59,26 @@ loop-place-preserved g c =
 
 pub returns-in-Err-send : goal.returns-in-Err-send
 returns-in-Err-send g c =
-    let framed = g.F.Framing.framed in
-    let t : Table = g.R.Rows.table c.args.rows.now in
+    let framed = g.F.Encoding.framed in
+    let t : Table = g.R.RowSource.table c.args.rows.now in
     let n : ℕ = c.loop-place.place in
     let gives = c.in-Ok-row.ensures.row c.args.rows.now c.loop-place.invariant.given in
-    let row = same_row t (g.R.Rows.table c.loop-place.rows) c.as_slice.result.now c.in-Ok-row.text.items n
+    let row = same_row t (g.R.RowSource.table c.loop-place.rows) c.as_slice.result.now c.in-Ok-row.text.items n
     c.loop-place.invariant.same c.as_slice.ensures.value gives.0 in
-    let line : Sending = sending g.W.Wire.log c.args.line.now in
-    let new : Sending = sending g.W.Wire.log c.send-in-loop-place.new.line in
+    let writer : Sending = sending g.W.Wire.log c.args.writer.now in
+    let new : Sending = sending g.W.Wire.log c.send-in-loop-place.new.writer in
     record {
       count = n + 1;
       few = omega (arith, c.loop-place-test.true, c.count-count.ensures);
       rows = omega (arith, c.count-count.ensures);
       short = short_more framed t n c.loop-place.invariant.short
-          (framed_row framed t (g.R.Rows.table c.loop-place.rows) c.in-Ok-row.text.items n g.met.F.Framing.short
+          (framed_row framed t (g.R.RowSource.table c.loop-place.rows) c.in-Ok-row.text.items n g.met.F.Framing.short
           c.loop-place.invariant.same gives.0 gives.1);
       ends = (
         gives.2,
-        subst (λ (xs : List ℕ). Sends (Err c.in-Err-send.fault) xs line new)
+        subst (λ (xs : List ℕ). Sends (Err c.in-Err-send.fault) xs writer new)
             (ap (λ xs. rows_to framed t n ++ framed xs) row ∙ sym (rows_more framed t n))
-            (sends_after (Err c.in-Err-send.fault) line (sending g.W.Wire.log c.loop-place.line) new
+            (sends_after (Err c.in-Err-send.fault) writer (sending g.W.Wire.log c.loop-place.writer) new
             (rows_to framed t n) (framed c.as_slice.result.now) c.loop-place.invariant.sent c.in-Err-send.ensures),
       );
     }

@@ -28,15 +28,15 @@ invariant_of-self g c =
         c.slip_length.ensures.value,
       ),
       omega (arith, c.in-Ok.ensures.bound, c.slip_length.ensures.value),
-      λ known. (let before = sym c.keep.ensures.keeps.known ∙ known in
+      λ known. (let before = sym c.keep_slip.ensures.keeps.known ∙ known in
           let sound : IsFileOf c.self.inside.study c.self.inside.gate.number None (on (g.D.Disk.log c.self.inside.disk)) =
           subst (λ (o : Option Slip). IsFileOf c.self.inside.study c.self.inside.gate.number o
           (on (g.D.Disk.log c.self.inside.disk))) none (c.self.invariant.2 before) in
           subst (λ (o : Option Slip). IsFileOf c.self.inside.study (c.self.inside.gate.number + 1) o
-          (on (g.D.Disk.log c.keep.new.disk))) (sym none)
+          (on (g.D.Disk.log c.keep_slip.new.disk))) (sym none)
           (added c.self.inside.study c.self.inside.gate.number
           c.args.slip (on (g.D.Disk.log c.self.inside.disk))
-          (on (g.D.Disk.log c.keep.new.disk)) sound
+          (on (g.D.Disk.log c.keep_slip.new.disk)) sound
           (c.in-Ok.ensures.keeps.state before).kept (c.in-Ok.ensures.keeps.state before).durable).0),
     )
 
@@ -44,11 +44,11 @@ pub invariant_of-self-in-Err : goal.invariant_of-self-in-Err
 invariant_of-self-in-Err g c = (
   c.self.invariant.0,
   c.self.invariant.1,
-  λ known. (let before = sym c.keep.ensures.keeps.known ∙ known in
+  λ known. (let before = sym c.keep_slip.ensures.keeps.known ∙ known in
       failed_sound c.self.inside.study c.self.inside.gate.number
       c.args.slip (on (g.D.Disk.log c.self.inside.disk))
-      (on (g.D.Disk.log c.keep.new.disk))
-      (c.self.invariant.2 before).counted (c.keep.ensures.keeps.state before).left),
+      (on (g.D.Disk.log c.keep_slip.new.disk))
+      (c.self.invariant.2 before).counted (c.keep_slip.ensures.keeps.state before).left),
 )
 
 pub returns-in-Ok-clause-appends : goal.returns-in-Ok-clause-appends
@@ -58,7 +58,7 @@ returns-in-Ok-clause-appends g c = rw (← c.self.view_is) (record {
       let v = c.self.inside.study in
       let n : ℕ = c.self.inside.gate.number in
       let old : DiskState = on (g.D.Disk.log c.self.inside.disk) in
-      let new : DiskState = on (g.D.Disk.log c.keep.new.disk) in
+      let new : DiskState = on (g.D.Disk.log c.keep_slip.new.disk) in
       let none : c.self.inside.doubtful ≡ None = none_of c.self.inside.doubtful (search rules) in
       let sound : IsFileOf v n None old =
       subst (λ (o : Option Slip). IsFileOf v n o old) none (c.self.invariant.2 before) in
@@ -81,7 +81,7 @@ returns-in-Err-clause-appends g c = rw (← c.self.view_is) (record {
       let v = c.self.inside.study in
       let n : ℕ = c.self.inside.gate.number in
       let old : DiskState = on (g.D.Disk.log c.self.inside.disk) in
-      let new : DiskState = on (g.D.Disk.log c.keep.new.disk) in
+      let new : DiskState = on (g.D.Disk.log c.keep_slip.new.disk) in
       let none : c.self.inside.doubtful ≡ None = none_of c.self.inside.doubtful (search rules) in
       let keeps = c.in-Err.ensures.keeps.state before in record {
         moments = subst (λ (o : Option Slip). Throughout old new (ReadsAs v (kept_slips v n old)

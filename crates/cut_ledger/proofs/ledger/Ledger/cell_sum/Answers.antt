@@ -10,9 +10,9 @@ pub returns-clause-value : goal.returns-clause-value
 returns-clause-value c =
     let l = c.self.inside in
     let low = rw (← c.self.view_is) at c.requires in
-    let within : c.args.cell < length l.kept.sums.items = omega (arith, c.self.invariant.long) in
+    let within : c.args.cell < length l.held_trials.sums.items = omega (arith, c.self.invariant.long) in
     rw (← c.self.view_is)
-    (get_or_read l.kept.sums.items c.args.cell c.index.result.now within c.index.ensures (each_number (λ n. 0))
+    (get_or_read l.held_trials.sums.items c.args.cell c.index.result.now within c.index.ensures (each_number (λ n. 0))
     ∙ (c.self.invariant.each c.args.cell within).sums)
 
 pub returns-clause-few : goal.returns-clause-few

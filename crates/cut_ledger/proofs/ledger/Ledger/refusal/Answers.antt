@@ -19,7 +19,7 @@ pub returns-then-overlaps-clause-value : goal.returns-then-overlaps-clause-value
 returns-then-overlaps-clause-value c =
     let l = c.self.inside in
     let same = same_plan l.plan _ true (rw c.plan.ensures at c.if-not-same.ensures.texts) in
-    let over = met (has l.kept.trials) c.args.offered.now.piece c.piece.result true c.piece.ensures.value
+    let over = met (has l.held_trials.trials) c.args.offered.now.piece c.piece.result true c.piece.ensures.value
     c.if-overlaps.ensures in
     rw (← c.self.view_is) (grind (arith, same, over))
 
@@ -27,7 +27,7 @@ pub returns-clause-value : goal.returns-clause-value
 returns-clause-value c =
     let l = c.self.inside in
     let same = same_plan l.plan _ true (rw c.plan.ensures at c.if-not-same.ensures.texts) in
-    let free = met (has l.kept.trials) c.args.offered.now.piece c.piece.result false c.piece.ensures.value
+    let free = met (has l.held_trials.trials) c.args.offered.now.piece c.piece.result false c.piece.ensures.value
     c.if-overlaps.ensures in
     rw (← c.self.view_is) (grind (arith, same, free))
 

@@ -19,5 +19,5 @@ kept_by (Err e) v base old new sums c kept ok err =
 pub invariant_of-self : goal.invariant_of-self
 invariant_of-self c =
     let l = c.self.inside in
-    kept_by c.reserve.result l.plan l.base l.kept.trials c.reserve.new.self l.kept.sums.items c.args.cell
+    kept_by c.reserve.result l.plan l.base l.held_trials.trials c.reserve.new.self l.held_trials.sums.items c.args.cell
     c.self.invariant c.reserve.ensures.ok c.reserve.ensures.err

@@ -1,7 +1,7 @@
 -- The piece is put in, with the sums of its trials.
 use Rattle.std.proofs.Common.{◌≡◌, ◌*◌, ◌/◌, false, Result, Ok, Err, List, sym, subst}
 use Rattle.range_set.specs.Held.{Held, has}
-use Rattle.cut_ledger.specs.declared.kept.Kept.{Kept}
+use Rattle.cut_ledger.specs.declared.held_trials.HeldTrials.{HeldTrials}
 use Rattle.cut_ledger.proofs.Words.{AreKept, IsAdded, IsAtMost, IsTrue, OnErr, OnOk, Piece, Slip, Totals, Values}
 use Rattle.cut_ledger.proofs.Words.{is_piece, list_any, sum_of, trials_in}
 use Rattle.cut_ledger.proofs.AddLemmas.{taken_kept}
@@ -37,12 +37,13 @@ add-requires-clause-fits c =
 pub invariant_of-self : goal.invariant_of-self
 invariant_of-self c =
     let l = c.self.inside in
-    let new : Kept = c.add.new.self in
+    let new : HeldTrials = c.add.new.self in
     let p : Piece = c.args.offered.now.piece in
     let apart = rw (← c.self.view_is) at c.requires.apart in
     let plan = rw (← c.self.view_is) at c.requires.plan in
     either c.add.result (AreKept l.plan l.base new.trials new.sums.items) c.add.ensures.ok c.add.ensures.err
-    (taken l.plan c.args.offered.now.plan l.base l.kept.trials new.trials l.kept.sums.items new.sums.items p
+    (taken l.plan c.args.offered.now.plan l.base l.held_trials.trials new.trials l.held_trials.sums.items new.sums.items
+    p
     c.piece.result c.totals.result c.self.invariant c.piece.ensures.value plan c.totals.ensures.value
     c.piece.ensures.piece apart c.totals.ensures.few)
-    (λ same. subst (λ (k : Kept). AreKept l.plan l.base k.trials k.sums.items) (sym same) c.self.invariant)
+    (λ same. subst (λ (k : HeldTrials). AreKept l.plan l.base k.trials k.sums.items) (sym same) c.self.invariant)

@@ -3,7 +3,7 @@ use Rattle.std.proofs.Common.{◌≡◌, ◌∙◌, ◌+◌, ◌++◌, ◌∷◌
 use Rattle.std.proofs.Common.{refl, sym, subst, arith}
 use Rattle.range_set.specs.Held as held
 use Rattle.cut_ledger.specs.Tally.{Tally, HasAdded}
-use Rattle.cut_ledger.specs.inside.Kept.{HoldsExactly}
+use Rattle.cut_ledger.specs.inside.HeldTrials.{HoldsExactly}
 use Rattle.cut_ledger.specs.inside.TallyInside.{tally_of}
 use Rattle.cut_ledger.proofs.Words.{IsFirstBad, IsGood, IsTrue, Slip, ◌↔◌}
 use Rattle.cut_ledger.proofs.TallyLemmas.{IsPut, counted_few, is_put, judges_on, over_none, put_all, put_counted}

@@ -1,9 +1,9 @@
 use Rattle.std.proofs.Common.{◌≡◌, ◌∙◌, ℕ, ◌+◌, ◌≤◌, ◌==◌, not, List, slice_index, ap, sym, subst, arith}
 use Rattle.cut_blocks.specs.Images.{never}
-use Rattle.cut_nodes.specs.declared.slots.Slot.{Slot}
-use Rattle.cut_nodes.specs.Slots.{AreSlots}
-use Rattle.cut_arrivals.specs.Hearing.{deliveries_of, image_of}
-use Rattle.cut_receivers.specs.inside.Places.{hearing_to, AreImagesOf}
+use Rattle.cut_candidates.specs.declared.key_places.KeyPlace.{KeyPlace}
+use Rattle.cut_candidates.specs.KeyPlaces.{AreKeyPlaces}
+use Rattle.cut_arrivals.specs.Reception.{deliveries_of, image_of}
+use Rattle.cut_receivers.specs.inside.Places.{reception_to, AreImagesOf}
 use Rattle.cut_receivers.proofs.Counts.{count_below, count_until, copy_more, few_more, next_count}
 use Rattle.cut_receivers.proofs.Judged.{silent_bit}
 use Rattle.cut_receivers.proofs.deliveries.Deliveries.count.Goals as goal
@@ -13,29 +13,30 @@ loop-copy-preserved c =
     let d = c.args.self.now in
     let k : ℕ = d.trial.rule.k in
     let copy : ℕ = c.loop-copy.copy in
-    let blocks : List ℕ = d.slots.now.blocks.items in
-    let slots : AreSlots k blocks d.trial.edges.now c.as_slice-slots.result.now =
-    subst (λ (ss : List Slot). AreSlots k blocks d.trial.edges.now ss) (sym c.as_slice-slots.ensures.value) d.slots_are in
+    let blocks : List ℕ = d.key_places.now.blocks.items in
+    let key_places : AreKeyPlaces k blocks d.trial.edges.now c.as_slice-key_places.result.now =
+    subst (λ (ss : List KeyPlace). AreKeyPlaces k blocks d.trial.edges.now ss) (sym c.as_slice-key_places.ensures.value)
+    d.key_places_are in
     record {
-      until = λ i low knows. copy_more c.deliveries_stand_in_blocks.ensures.place (hearing_to d i) copy i
-          (slice_index c.next_of-next.result i) blocks c.as_slice-slots.result.now c.as_slice.result.now _ _
-          (subst (λ (vs : List (List (List ℕ))). AreImagesOf (hearing_to d i) copy i blocks vs)
+      until = λ i low knows. copy_more c.deliveries_stand_in_blocks.ensures.place (reception_to d i) copy i
+          (slice_index c.next_of-next.result i) blocks c.as_slice-key_places.result.now c.as_slice.result.now _ _
+          (subst (λ (vs : List (List (List ℕ))). AreImagesOf (reception_to d i) copy i blocks vs)
           (sym c.as_slice.ensures.value) (c.in_ok-draw.ensures.each i low knows))
-          slots (c.count-more.ensures i low) (c.loop-copy.invariant.until i low knows);
-      before = λ i low knows. copy_more c.deliveries_stand_in_blocks.ensures.place (hearing_to d i) copy i
-          (slice_index c.args.time i) blocks c.as_slice-slots.result.now c.as_slice-in-loop-copy.result.now _ _
-          (subst (λ (vs : List (List (List ℕ))). AreImagesOf (hearing_to d i) copy i blocks vs)
+          key_places (c.count-more.ensures i low) (c.loop-copy.invariant.until i low knows);
+      before = λ i low knows. copy_more c.deliveries_stand_in_blocks.ensures.place (reception_to d i) copy i
+          (slice_index c.args.time i) blocks c.as_slice-key_places.result.now c.as_slice-in-loop-copy.result.now _ _
+          (subst (λ (vs : List (List (List ℕ))). AreImagesOf (reception_to d i) copy i blocks vs)
           (sym c.as_slice-in-loop-copy.ensures.value) (c.in_ok-draw.ensures.each i low knows))
-          slots (c.count-more-in-loop-copy.ensures i low) (c.loop-copy.invariant.before i low knows);
-      few_until = λ i low. few_more copy k blocks d.trial.edges.now c.as_slice-slots.result.now _ _ _
-          slots d.few (c.count-more.ensures i low) (c.loop-copy.invariant.few_until i low);
-      few_before = λ i low. few_more copy k blocks d.trial.edges.now c.as_slice-slots.result.now _ _ _
-          slots d.few (c.count-more-in-loop-copy.ensures i low) (c.loop-copy.invariant.few_before i low);
+          key_places (c.count-more-in-loop-copy.ensures i low) (c.loop-copy.invariant.before i low knows);
+      few_until = λ i low. few_more copy k blocks d.trial.edges.now c.as_slice-key_places.result.now _ _ _
+          key_places d.few (c.count-more.ensures i low) (c.loop-copy.invariant.few_until i low);
+      few_before = λ i low. few_more copy k blocks d.trial.edges.now c.as_slice-key_places.result.now _ _ _
+          key_places d.few (c.count-more-in-loop-copy.ensures i low) (c.loop-copy.invariant.few_before i low);
     }
 
 pub returns-clause-counted : goal.returns-clause-counted
 returns-clause-counted c i low knows comes =
-    let x = hearing_to c.args.self.now i in
+    let x = reception_to c.args.self.now i in
     let time : ℕ = slice_index c.args.time i in
     let until : ℕ = slice_index c.loop-copy.until i in
     let before : ℕ = slice_index c.loop-copy.before i in

@@ -2,10 +2,10 @@ use Rattle.std.proofs.Common.{◌≡◌, ◌∙◌, ℕ, ◌<◌, List, [], min,
 use Rattle.std.proofs.Common.{IfSome, length, ap, sym, subst}
 use Rattle.std.proofs.lemmas.List.{get_or-replicate}
 use Rattle.cut_blocks.specs.Images.{never}
-use Rattle.cut_arrivals.specs.Hearing.{lows_at}
-use Rattle.cut_nodes.specs.declared.slots.Slot.{Slot}
-use Rattle.cut_nodes.specs.Slots.{key_in}
-use Rattle.cut_receivers.specs.inside.Times.{hearing_in, subjects_in, image_if, time_if}
+use Rattle.cut_arrivals.specs.Reception.{lows_at}
+use Rattle.cut_candidates.specs.declared.key_places.KeyPlace.{KeyPlace}
+use Rattle.cut_candidates.specs.KeyPlaces.{key_in}
+use Rattle.cut_receivers.specs.inside.Times.{reception_in, subjects_in, image_if, time_if}
 use Rattle.cut_receivers.proofs.Placed.{low_at}
 use Rattle.cut_receivers.proofs.images.Images.counted_from.Goals.{in-Some, in-None, in-Some-gained, in-None-gained}
 use Rattle.cut_receivers.proofs.images.Images.counted_from.Goals as goal
@@ -13,26 +13,26 @@ use Rattle.cut_receivers.proofs.images.Images.counted_from.Goals as goal
 pub returns : goal.returns
 returns c i s low own =
     let images = c.args.self.now in
-    let x = hearing_in images i in
-    let key : Slot → ℕ × ℕ = λ slot. key_in images.trial.nodes.now.blocks.items slot in
+    let x = reception_in images i in
+    let key : KeyPlace → ℕ × ℕ = λ key_place. key_in images.trial.candidates.now.blocks.items key_place in
     let of : Option ℕ → ℕ = λ o. time_if x s (image_if x (option_map key c.args.cause.heard)) o in
     let name : ℕ → ℕ = λ place. slice_index (subjects_in images) place in
     let image : slice_index c.match-cause.image i ≡ image_if x (option_map key c.args.cause.heard) =
     elim c.match-cause.branch [
       | in-Some w ↦ ap (λ (v : List ℕ). slice_index v i) w.image-is ∙ w.image-image.ensures i low
-          ∙ sym (ap (λ (o : Option Slot). image_if x (option_map key o)) w.in-Some.is)
+          ∙ sym (ap (λ (o : Option KeyPlace). image_if x (option_map key o)) w.in-Some.is)
       | in-None w ↦ ap (λ (v : List ℕ). slice_index v i) w.image-is ∙ get_or-replicate 4 i never 0 low
-          ∙ sym (ap (λ (o : Option Slot). image_if x (option_map key o)) w.in-None.is)
+          ∙ sym (ap (λ (o : Option KeyPlace). image_if x (option_map key o)) w.in-None.is)
     ] in
     elim c.match-cause-2.branch [
       | in-Some-gained w ↦ ap (λ (v : List ℕ). slice_index v i) w.result-is ∙ w.earlier.ensures i low
           ∙ ap (λ (m : ℕ). min m (max (slice_index c.args.low i) (slice_index
-          (slice_index_or c.args.lows.now w.from.result []) i))) image
+          (slice_index_or c.args.reported_at.now w.from.result []) i))) image
           ∙ ap (λ (m : ℕ). min (image_if x (option_map key c.args.cause.heard)) (max m (slice_index
-          (slice_index_or c.args.lows.now w.from.result []) i))) own
+          (slice_index_or c.args.reported_at.now w.from.result []) i))) own
           ∙ ap (λ (m : ℕ). min (image_if x (option_map key c.args.cause.heard)) (max (lows_at x never s) m))
-          (ap (λ (p : ℕ). slice_index (slice_index_or c.args.lows.now p []) i) w.from.ensures
-          ∙ low_at images c.args.lows.now i w.in-Some-gained.place c.requires.lows low
+          (ap (λ (p : ℕ). slice_index (slice_index_or c.args.reported_at.now p []) i) w.from.ensures
+          ∙ low_at images c.args.reported_at.now i w.in-Some-gained.place c.requires.reported_at low
           (subst (λ (o : Option ℕ). IfSome o (λ place. place < length
           (subjects_in images))) w.in-Some-gained.is c.requires.cause.gained))
           ∙ sym (ap (λ (o : Option ℕ). of (option_map name o)) w.in-Some-gained.is)

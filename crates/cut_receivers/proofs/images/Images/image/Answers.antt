@@ -10,9 +10,10 @@ returns c i low =
     ap (λ (b : ℕ). slice_index (slice_index_or
     (slice_index_or images.drawn.now b []) c.from-2.result []) i) c.from.ensures
     ∙ ap (λ (q : ℕ). slice_index (slice_index_or
-    (slice_index_or images.drawn.now c.args.slot.block []) q []) i) c.from-2.ensures
+    (slice_index_or images.drawn.now c.args.key_place.block []) q []) i) c.from-2.ensures
     ∙ ap (λ (vs : List (List (List ℕ))). slice_index (slice_index_or
-    (slice_index_or vs c.args.slot.block []) c.args.slot.key []) i) images.are_drawn
+    (slice_index_or vs c.args.key_place.block []) c.args.key_place.key []) i) images.are_drawn
     ∙ image_drawn (λ block q row. least_image trial.blocks.now trial.copies block q row)
     (λ j. row_of 0 j) images.receivers
-    trial.nodes.now.blocks.items c.args.slot.block c.args.slot.key i images.four c.requires.block c.requires.key low
+    trial.candidates.now.blocks.items c.args.key_place.block c.args.key_place.key i images.four c.requires.block
+    c.requires.key low

@@ -9,7 +9,8 @@ use Rattle.cut_receivers.proofs.images.Images.stable_from.Goals as goal
 
 pub ranks-requires-clause-few : goal.ranks-requires-clause-few
 ranks-requires-clause-few c =
-    omega (arith, few_causes c.args.self.now.trial c.args.node.now c.requires.node, c.gather_counted.ensures.many)
+    omega (arith, few_causes c.args.self.now.trial c.args.candidate.now c.requires.candidate,
+    c.gather_counted.ensures.many)
 
 pub ranks-requires-clause-times : goal.ranks-requires-clause-times
 ranks-requires-clause-times c i low =
@@ -23,9 +24,9 @@ ranks-requires-clause-times c i low =
       gained = laws.gained;
       high = laws.high;
     } in
-    let values : lane i c.as_slice.result.now ≡ counted t c.args.node.now j =
+    let values : lane i c.as_slice.result.now ≡ counted t c.args.candidate.now j =
     ap (λ (vs : List (List ℕ)). lane i vs) c.as_slice.ensures.value ∙ c.gather_counted.ensures.times i low in
-    subst (All (λ v. v ≤ never)) (sym values) (counted_within known t c.args.node.now j c.requires.node)
+    subst (All (λ v. v ≤ never)) (sym values) (counted_within known t c.args.candidate.now j c.requires.candidate)
 
 pub returns-clause-high : goal.returns-clause-high
 returns-clause-high c i low =
@@ -39,8 +40,8 @@ returns-clause-high c i low =
       gained = laws.gained;
       high = laws.high;
     } in
-    let values : lane i c.as_slice.result.now ≡ counted t c.args.node.now j =
+    let values : lane i c.as_slice.result.now ≡ counted t c.args.candidate.now j =
     ap (λ (vs : List (List ℕ)). lane i vs) c.as_slice.ensures.value ∙ c.gather_counted.ensures.times i low in
-    counted_high known t c.args.node.now j (slice_index c.ranks.result.1 i) c.requires.node
+    counted_high known t c.args.candidate.now j (slice_index c.ranks.result.1 i) c.requires.candidate
     (subst (λ (xs : List ℕ). IsRank never t.rule.h xs (slice_index c.ranks.result.1 i)) values
     (c.ranks.ensures.high i low))

@@ -2,11 +2,11 @@ use Rattle.std.proofs.Common.{Vec, Global, ◌≡◌, ◌∙◌, ℕ, ◌<◌, �
 use Rattle.std.proofs.Common.{slice_index, slice_index_or, vec_len, vec_capacity, ap, sym, subst, refl, arith}
 use Rattle.std.proofs.lemmas.List.{get_or_read_under, take_all}
 use Rattle.cut_blocks.specs.Images.{never}
-use Rattle.cut_arrivals.specs.Hearing.{Hearing, highs_at}
-use Rattle.cut_nodes.specs.declared.node.Node.{Node}
-use Rattle.cut_nodes.specs.Nodes.{subjects_of}
-use Rattle.cut_receivers.specs.Heard.{HasHeard}
-use Rattle.cut_receivers.specs.Findings.{members_at}
+use Rattle.cut_arrivals.specs.Reception.{Reception, highs_at}
+use Rattle.cut_candidates.specs.declared.candidate.Candidate.{Candidate}
+use Rattle.cut_candidates.specs.Candidates.{subjects_of}
+use Rattle.cut_receivers.specs.Received.{HasReceived}
+use Rattle.cut_receivers.specs.LaneVerdicts.{members_at}
 use Rattle.cut_receivers.proofs.Placed.{subject_at, count_subjects}
 use Rattle.cut_receivers.proofs.Judged.{high_at, members_are, if_some, certain_of}
 use Rattle.cut_receivers.proofs.Kept.{filter_kept_next, filter_left_next}
@@ -19,31 +19,34 @@ loop-place-preserved c =
     let f = c.args.self.now in
     let i : ℕ = c.args.lane in
     let place : ℕ = c.loop-place.place in
-    let nodes : List Node = c.args.nodes.now.nodes.items in
-    let subjects : List ℕ = subjects_of nodes in
-    let time : ℕ = slice_index f.closing.time i in
-    let node : Node = c.node-item.result in
-    let inside : place < length nodes =
-    subst (λ (ns : List Node). place < length ns) c.deref-node-items.ensures.value c.loop-place-test.true in
-    let is : node ≡ slice_index_or nodes place node =
-    c.node-item.is ∙ ap (λ (ns : List Node). slice_index_or ns place node) c.deref-node-items.ensures.value in
-    let below : place < length subjects = omega (arith, inside, count_subjects nodes) in
-    let subject : node.subject ≡ slice_index subjects place = ap (λ (d : Node). d.subject) is
-    ∙ sym (subject_at nodes place node inside) in
-    let known : place < length f.highs.items = omega (arith, inside, c.requires.nodes) in
-    let read : c.index.result.now ≡ slice_index_or f.highs.items place [] =
-    get_or_read_under f.highs.items place (length f.highs.items) c.index.result.now [] c.index.ensures known refl in
-    let ended : (x : Hearing) → HasHeard x subjects i f
+    let candidates : List Candidate = c.args.candidates.now.candidates.items in
+    let subjects : List ℕ = subjects_of candidates in
+    let time : ℕ = slice_index f.proposal_time.time i in
+    let candidate : Candidate = c.candidate-item.result in
+    let inside : place < length candidates =
+    subst (λ (ns : List Candidate). place < length ns) c.deref-candidate-items.ensures.value c.loop-place-test.true in
+    let is : candidate ≡ slice_index_or candidates place candidate =
+    c.candidate-item.is ∙ ap (λ (ns : List Candidate). slice_index_or ns place candidate)
+    c.deref-candidate-items.ensures.value in
+    let below : place < length subjects = omega (arith, inside, count_subjects candidates) in
+    let subject : candidate.subject ≡ slice_index subjects place = ap (λ (d : Candidate). d.subject) is
+    ∙ sym (subject_at candidates place candidate inside) in
+    let known : place < length f.stable_at.items = omega (arith, inside, c.requires.candidates) in
+    let read : c.index.result.now ≡ slice_index_or f.stable_at.items place [] =
+    get_or_read_under f.stable_at.items place (length f.stable_at.items) c.index.result.now [] c.index.ensures known
+    refl in
+    let ended : (x : Reception) → HasReceived x subjects i f
     → nat_le (highs_at x never (slice_index subjects place)) time ≡ c.has_ended.result =
     λ x h. ap (λ (m : ℕ). nat_le m time) (sym (high_at x subjects i f h place below)
-    ∙ sym (value_lane i place f.highs.items known)
+    ∙ sym (value_lane i place f.stable_at.items known)
     ∙ ap (λ (v : List ℕ). slice_index v i) (sym read)) ∙ sym c.has_ended.ensures in
     record {
       members = λ x h.
           elim c.if-has_ended.branch [
             | then-has_ended w ↦ ap (λ (m : Vec ℕ Global). m.items) w.members-is ∙ w.push_reserved.ensures.items
-                ∙ ap (λ (ms : List ℕ). ms ++ node.subject ∷ []) (c.loop-place.invariant.members x h)
-                ∙ filter_kept_next (λ s. nat_le (highs_at x never s) time) subjects place node.subject below subject
+                ∙ ap (λ (ms : List ℕ). ms ++ candidate.subject ∷ []) (c.loop-place.invariant.members x h)
+                ∙ filter_kept_next (λ s. nat_le (highs_at x never s) time) subjects place candidate.subject below
+                subject
                 (ended x h ∙ w.if-has_ended.true)
             | else-has_ended w ↦ ap (λ (m : Vec ℕ Global). m.items) w.members-is ∙ c.loop-place.invariant.members x h
                 ∙ filter_left_next (λ s. nat_le (highs_at x never s) time) subjects place below (ended x h
@@ -83,19 +86,19 @@ loop-place-preserved c =
 
 pub returns-clause-members : goal.returns-clause-members
 returns-clause-members c x h clear =
-    let nodes : List Node = c.args.nodes.now.nodes.items in
-    let subjects : List ℕ = subjects_of nodes in
-    let time : ℕ = slice_index c.args.self.now.closing.time c.args.lane in
+    let candidates : List Candidate = c.args.candidates.now.candidates.items in
+    let subjects : List ℕ = subjects_of candidates in
+    let time : ℕ = slice_index c.args.self.now.proposal_time.time c.args.lane in
     let known = members_are x subjects c.args.lane c.args.self.now h c.images_give_the_members.ensures
-    c.nodes_show_the_verdict.ensures.other
+    c.candidates_show_the_verdict.ensures.other
     (certain_of x subjects c.args.lane c.args.self.now h clear) in
     let all : length subjects ≤ c.loop-place.place =
     omega (
       arith,
-      count_subjects nodes,
+      count_subjects candidates,
       c.loop-place-test.false,
       ap (λ
-          (ns : List Node). length ns) c.deref-node-items.ensures.value,
+          (ns : List Candidate). length ns) c.deref-candidate-items.ensures.value,
     ) in
     if_some (nat_lt time never) (members_at x) _ c.loop-place.members.items known
     (c.loop-place.invariant.members x h

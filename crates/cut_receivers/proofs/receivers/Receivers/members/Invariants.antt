@@ -1,16 +1,16 @@
 use Rattle.std.proofs.Common.{◌≡◌, ◌≤◌, nat_le, length, take, filter, slice_index, vec_len, vec_capacity}
 use Rattle.cut_blocks.specs.Images.{never}
-use Rattle.cut_arrivals.specs.Hearing.{Hearing, highs_at}
-use Rattle.cut_nodes.specs.Nodes.{subjects_of}
-use Rattle.cut_receivers.specs.Heard.{HasHeard}
+use Rattle.cut_arrivals.specs.Reception.{Reception, highs_at}
+use Rattle.cut_candidates.specs.Candidates.{subjects_of}
+use Rattle.cut_receivers.specs.Received.{HasReceived}
 use Rattle.cut_receivers.proofs.receivers.Receivers.members.Given as goal
 
--- of the nodes so far those that have ended
+-- of the candidates so far those that have ended
 abbrev pub invariant-loop-place : goal.invariant-loop-place
 invariant-loop-place l = record {
-  members : (x : Hearing) → HasHeard x (subjects_of l.nodes.nodes.items) l.lane l.self
-      → l.members.items ≡ filter (λ s. nat_le (highs_at x never s) (slice_index l.self.closing.time l.lane))
-      (take l.place (subjects_of l.nodes.nodes.items));
+  members : (x : Reception) → HasReceived x (subjects_of l.candidates.candidates.items) l.lane l.self
+      → l.members.items ≡ filter (λ s. nat_le (highs_at x never s) (slice_index l.self.proposal_time.time l.lane))
+      (take l.place (subjects_of l.candidates.candidates.items));
   many : vec_len l.members ≤ l.place;
-  room : length l.nodes.nodes.items ≤ vec_capacity l.members;
+  room : length l.candidates.candidates.items ≤ vec_capacity l.members;
 }

@@ -13,7 +13,7 @@ loop-message-preserved g c =
     record {
       replies = goes_on c.args.self.now.hall.now c.args.self.now.pass.now.view c.loop-message.self.pass.now.view
           c.answer.new.self.pass.now.view c.args.messages.now c.loop-message.message-index c.message-item.result
-          (sending log c.args.line.now) (sending log c.loop-message.line) (sending log c.answer.new.line)
+          (sending log c.args.writer.now) (sending log c.loop-message.writer) (sending log c.answer.new.writer)
           c.loop-message-test.true c.message-item.is c.loop-message.invariant.replies
           (rw (c.in-Ok-On.field-0-is, c.loop-message.invariant.hall) at c.in-Ok-On.ensures.serves);
       hall = c.answer.ensures.stays.0 ∙ c.loop-message.invariant.hall;
@@ -25,7 +25,7 @@ returns-in-Ok-Over-clause-serves g c =
     let log = g.W.Wire.log in
     is_over c.args.self.now.hall.now c.args.self.now.pass.now.view c.loop-message.self.pass.now.view
     c.answer.new.self.pass.now.view c.args.messages.now c.loop-message.message-index c.message-item.result
-    (sending log c.args.line.now) (sending log c.loop-message.line) (sending log c.answer.new.line)
+    (sending log c.args.writer.now) (sending log c.loop-message.writer) (sending log c.answer.new.writer)
     c.loop-message-test.true c.message-item.is c.loop-message.invariant.replies
     (rw c.in-Ok-Over.field-0-is at c.in-Ok-Over.ensures.serves)
 
@@ -34,6 +34,6 @@ returns-in-Err-clause-serves g c =
     let log = g.W.Wire.log in
     is_cut c.args.self.now.hall.now c.args.self.now.pass.now.view c.loop-message.self.pass.now.view
     c.answer.new.self.pass.now.view c.args.messages.now c.loop-message.message-index c.message-item.result
-    (sending log c.args.line.now) (sending log c.loop-message.line) (sending log c.answer.new.line)
+    (sending log c.args.writer.now) (sending log c.loop-message.writer) (sending log c.answer.new.writer)
     c.loop-message-test.true c.message-item.is c.loop-message.invariant.replies c.in-Err.fault
     (rw c.loop-message.invariant.hall at c.in-Err.ensures.serves)

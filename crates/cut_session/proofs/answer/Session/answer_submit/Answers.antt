@@ -14,13 +14,13 @@ pub returns-in-Ok-submit-clause-replies : goal.returns-in-Ok-submit-clause-repli
 returns-in-Ok-submit-clause-replies g c =
     let log = g.W.Wire.log in
     plan_answered c.args.self.now.hall.now.is_trusted c.args.text.now c.in-Ok.plan c.in-Ok-submit.opened.plan
-    c.send_table.result (sending log c.args.line.now) (sending log c.send_table.new.line) c.in-Ok.ensures.ok
+    c.send_table.result (sending log c.args.writer.now) (sending log c.send_table.new.writer) c.in-Ok.ensures.ok
     c.in-Ok-submit.ensures.plan c.send_table.ensures.replies
 
 pub returns-in-Err-clause-replies : goal.returns-in-Err-clause-replies
 returns-in-Err-clause-replies g c =
     let log = g.W.Wire.log in
     plan_refused c.args.self.now.hall.now.is_trusted c.args.text.now c.in-Ok.plan c.in-Err.fault c.code-in-Err.result
-    c.send_fault-in-Err.result (sending log c.args.line.now) (sending log c.send_fault-in-Err.new.line)
+    c.send_fault-in-Err.result (sending log c.args.writer.now) (sending log c.send_fault-in-Err.new.writer)
     c.in-Ok.ensures.ok
     c.code-in-Err.ensures c.send_fault-in-Err.ensures

@@ -8,14 +8,14 @@ use Rattle.cut_session.proofs.answer.Session.serve.Goals as goal
 pub returns-in-Err-clause-ends : goal.returns-in-Err-clause-ends
 returns-in-Err-clause-ends g c =
     (rw c.loop.invariant.hall at (c.in-Err.ensures.goes c.args.self.now.pass.now.view
-    (sending g.W.Wire.log c.args.line.now) c.requires)) c.loop.invariant.serving
+    (sending g.W.Wire.log c.args.writer.now) c.requires)) c.loop.invariant.serving
 
 pub loop-preserved : goal.loop-preserved
 loop-preserved g c = record {
   next = tt;
   finite = tt;
   serving = ((rw c.loop.invariant.hall at (c.in-Ok.ensures.goes c.args.self.now.pass.now.view
-      (sending g.W.Wire.log c.args.line.now) c.requires)) c.loop.invariant.serving).0;
+      (sending g.W.Wire.log c.args.writer.now) c.requires)) c.loop.invariant.serving).0;
   few = c.in-Ok.ensures.few;
   hall = c.take_next.ensures.stays.0 ∙ c.loop.invariant.hall;
   pass = c.take_next.ensures.stays.1 ∙ c.loop.invariant.pass;
@@ -26,7 +26,7 @@ loop-init g c = record {
   next = tt;
   finite = tt;
   serving = serves_first c.args.self.now.hall.now c.args.self.now.pass.now.view c.requests-reader.result
-      (sending g.W.Wire.log c.args.line.now) c.requests-reader.ensures.nothing
+      (sending g.W.Wire.log c.args.writer.now) c.requests-reader.ensures.nothing
       (ap (λ (r : Reading). r.fault) c.requests-reader.ensures.value)
       (ap (λ (r : Reading). r.side) c.requests-reader.ensures.value) (rises_none c.args.self.now.pass.now.view)
       c.requires;

@@ -9,7 +9,7 @@ invariant-loop g l = record {
   next : (goal.iterator-loop g).can_next l.iterator';
   finite : (goal.iterator-loop g).is_finite l.iterator';
   serving : IsServing l.fn.self.hall.now l.fn.self.pass.now.view l.self.pass.now.view l.reader l.requests []
-      (sending g.W.Wire.log l.fn.line) (sending g.W.Wire.log l.line);
+      (sending g.W.Wire.log l.fn.writer) (sending g.W.Wire.log l.writer);
   few : l.requests ≤ 1000000;
   hall : l.self.hall.now ≡ l.fn.self.hall.now;
   pass : l.self.pass.ghost_name ≡ l.fn.self.pass.ghost_name;

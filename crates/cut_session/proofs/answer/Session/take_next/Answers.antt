@@ -6,7 +6,7 @@ use Rattle.cut_session.proofs.answer.Session.take_next.Goals as goal
 pub returns-in-Err-clause-goes : goal.returns-in-Err-clause-goes
 returns-in-Err-clause-goes g c = λ low first none_sent s.
     (let log = g.W.Wire.log in
-    ends_unread s (sending log c.read.new.self) c.leave.result (sending log c.leave.new.line) c.requires.few none_sent
+    ends_unread s (sending log c.read.new.self) c.leave.result (sending log c.leave.new.writer) c.requires.few none_sent
     c.in-Err.ensures.reads c.leave.ensures)
 
 pub returns-in-Ok-finish-clause-goes : goal.returns-in-Ok-finish-clause-goes
@@ -18,7 +18,8 @@ pub returns-in-Err-finish-clause-goes : goal.returns-in-Err-finish-clause-goes
 returns-in-Err-finish-clause-goes g c = λ low first none_sent s.
     (let log = g.W.Wire.log in
     ends_within s (sending log c.read.new.self) c.read.new.buffer c.in-Ok.count c.leave-in-Err-finish.result
-    c.in-Err-finish.field-0 (sending log c.leave-in-Err-finish.new.line) c.requires.few none_sent c.in-Ok.ensures.reads
+    c.in-Err-finish.field-0 (sending log c.leave-in-Err-finish.new.writer) c.requires.few none_sent
+    c.in-Ok.ensures.reads
     (omega (arith, c.if-count-eq0.true)) (sym c.in-Err-finish.ensures) c.leave-in-Err-finish.ensures)
 
 pub returns-clause-goes : goal.returns-clause-goes

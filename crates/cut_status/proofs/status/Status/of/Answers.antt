@@ -11,14 +11,14 @@ returns-clause-ok c = λ slips added.
     let read : (let s : StatusValue = record {
       held = c.held.result;
       trials = c.trials.result;
-      done = c.cells_done.result;
+      done = c.done_cells.result;
       cells = c.cells.result;
       slips = c.from.result;
       text = c.in-Ok.text.items;
     } in s) ≡ status_by c.args.tally.now.plan (has_trial c.args.tally.now) c.args.tally.now.slips = rw (
       c.held.ensures,
       c.trials.ensures.value,
-      c.cells_done.ensures,
+      c.done_cells.ensures,
       c.cells.ensures.value,
       c.from.ensures,
       c.slips.ensures,

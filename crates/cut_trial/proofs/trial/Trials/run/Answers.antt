@@ -10,8 +10,8 @@ alert-requires c =
     rw c.in_ok-draw.ensures.drawn
     (roles_length alerts.study.plan.now alerts.cell.f c.new-draws.result alerts.study.rings.now)
 
-pub invariant_of-cast-clause-nodes : goal.invariant_of-cast-clause-nodes
-invariant_of-cast-clause-nodes c =
+pub invariant_of-setup-clause-nodes : goal.invariant_of-setup-clause-nodes
+invariant_of-setup-clause-nodes c =
     let alerts = c.args.self.now.alerts in
     rw (c.in_ok-alert.ensures.study, c.in_ok-draw.ensures.drawn)
     (roles_length alerts.study.plan.now alerts.cell.f c.new-draws.result alerts.study.rings.now)

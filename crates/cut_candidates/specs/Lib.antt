@@ -1,0 +1,3 @@
+pub mod KeyPlaces
+pub mod Candidates
+pub mod inside

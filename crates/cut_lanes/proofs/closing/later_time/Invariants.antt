@@ -1,9 +1,0 @@
-use Rattle.std.proofs.Common.{ℕ, ◌<◌, slice_index}
-use Rattle.cut_ranks.proofs.Closings.{IsRaisedTo}
-use Rattle.cut_lanes.specs.Lanes.{lane}
-use Rattle.cut_lanes.proofs.closing.later_time.Given as goal
-
--- of the processes so far
-abbrev pub invariant-loop-place : goal.invariant-loop-place
-invariant-loop-place l = (i first : ℕ) → i < 4
-    → IsRaisedTo first l.place (lane i l.lows) (lane i l.highs) (slice_index l.fn.time i) (slice_index l.later i)

@@ -1,4 +1,0 @@
--- How cut_nodes keeps its values, and what its private functions promise: no contract of a public function cites it.
-pub mod Reported
-pub mod Runs
-pub mod Slots

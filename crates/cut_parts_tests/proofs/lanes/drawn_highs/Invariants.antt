@@ -1,6 +1,0 @@
-use Rattle.std.proofs.Common.{◌≡◌, length}
-use Rattle.cut_parts_tests.proofs.lanes.drawn_highs.Given as goal
-
--- an end for each beginning so far
-abbrev pub invariant-loop-low : goal.invariant-loop-low
-invariant-loop-low l = length l.highs.items ≡ l.low-index

@@ -1,9 +1,0 @@
-use Rattle.std.proofs.Common.{◌∙◌, sym, arith}
-use Rattle.cut_lists.proofs.Ranges.{none_passing}
-use Rattle.cut_receivers.specs.Findings.{finding_in, is_proposal}
-use Rattle.cut_trial.proofs.judges.Judges.places.Goals as goal
-
-pub returns-in_default-clause-unasked : goal.returns-in_default-clause-unasked
-returns-in_default-clause-unasked c = λ two i low.
-    none_passing (λ lane. is_proposal (finding_in c.args.findings lane)) 0 4 i
-    (sym c.has_proposals.ensures ∙ c.if-has_proposals.false) (omega arith) (omega (arith, low))
