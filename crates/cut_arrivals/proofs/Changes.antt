@@ -6,7 +6,7 @@ use Rattle.std.proofs.lemmas.Bool.{cases_lt, le-leb, le-ltb, lt-leb, lt-ltb}
 use Rattle.std.proofs.lemmas.List.{length-map, get_or-map}
 use Rattle.std.proofs.lemmas.List.Elements.{All-contains, All-map, Contains-get_or}
 use Rattle.cut_lists.proofs.Greatest.{fold_max-le, get_or-le-fold_max}
-use Rattle.cut_arrivals.specs.Rising.{IsRising}
+use Rattle.cut_arrivals.specs.proposals.Rising.{IsRising}
 
 -- of two elements of a list the one whose place is no later has no greater image
 pub record LieAlike {X : Type 0} (xs : List X) (place image : X → ℕ) (end last : ℕ) : Type 0 where

@@ -9,12 +9,12 @@ use Rattle.std.proofs.lemmas.List.{length-map, get_or-map, get_or_default}
 use Rattle.std.proofs.lemmas.List.Folds.{list_any_at}
 use Rattle.cut_lists.proofs.Firsts.{NonePasses, IsFirst, found_first}
 use Rattle.cut_lists.proofs.Ranges.{filter_agree_on, list_any_passing, list_any_none_passing, none_passing, passing}
-use Rattle.cut_ranks.specs.Closing.{IsEnough, is_doubtful}
-use Rattle.cut_arrivals.specs.Times.{members_by, is_settled_by}
-use Rattle.cut_arrivals.specs.Rising.{IsRising}
-use Rattle.cut_arrivals.specs.Candidates.{AreTimes, AreCandidates, IsClosed}
+use Rattle.cut_arrivals.specs.ranks.Closing.{IsEnough, is_doubtful}
+use Rattle.cut_arrivals.specs.proposals.Times.{members_by, is_settled_by}
+use Rattle.cut_arrivals.specs.proposals.Rising.{IsRising}
+use Rattle.cut_arrivals.specs.proposals.Candidates.{AreTimes, AreCandidates, IsClosed}
 use Rattle.cut_arrivals.proofs.Tests.{IsKept, IsTrueFrom, fails_before, turns, two_pass}
-use Rattle.cut_ranks.proofs.Ranks.{same_test}
+use Rattle.cut_arrivals.proofs.RanksRanks.{same_test}
 use Rattle.cut_detector.proofs.Places.{not_true}
 
 -- ---- settled times

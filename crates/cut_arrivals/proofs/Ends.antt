@@ -15,17 +15,17 @@ use Rattle.cut_rings.specs.Edges.{EdgeSet, is_edge, set_of}
 use Rattle.cut_draws.specs.declared.delivery.Delivery.{Delivery}
 use Rattle.cut_draws.specs.DeliveryOrder.{all_deliveries}
 use Rattle.cut_detector.specs.Counts.{is_reported, is_full, is_stable}
-use Rattle.cut_blocks.specs.Images.{ImagesAreBelowNever}
-use Rattle.cut_arrivals.specs.Times.{EdgeTimes, ComesAt, low_of, full_time, high_of, members_by, is_settled_by}
-use Rattle.cut_arrivals.specs.Reception.{Reception, IsReception, deliveries_of, proposal_at, image_of, first_times}
-use Rattle.cut_arrivals.specs.Reception.{lows_at}
-use Rattle.cut_arrivals.specs.Reception.{highs_at}
+use Rattle.cut_arrivals.specs.blocks.Images.{ImagesAreBelowNever}
+use Rattle.cut_arrivals.specs.proposals.Times.{EdgeTimes, ComesAt, low_of, full_time, high_of, members_by, is_settled_by}
+use Rattle.cut_arrivals.specs.proposals.Reception.{Reception, IsReception, deliveries_of, proposal_at, image_of, first_times}
+use Rattle.cut_arrivals.specs.proposals.Reception.{lows_at}
+use Rattle.cut_arrivals.specs.proposals.Reception.{highs_at}
 use Rattle.cut_arrivals.proofs.Modes.{reported_from_low, counts_from_full, stable_from_high}
 use Rattle.cut_arrivals.proofs.Found.{proposed, proposes_by_times}
 use Rattle.cut_arrivals.proofs.FirstTimes.{first_come}
 use Rattle.cut_arrivals.proofs.Closes.{settled-is}
-use Rattle.cut_arrivals.proofs.Heard.{end_of, heard_by, high_places, low_places, place_of, places_at, places_before}
-use Rattle.cut_arrivals.proofs.Heard.{places_come}
+use Rattle.cut_arrivals.proofs.ProposalsHeard.{end_of, heard_by, high_places, low_places, place_of, places_at, places_before}
+use Rattle.cut_arrivals.proofs.ProposalsHeard.{places_come}
 use Rattle.cut_rings.proofs.Observers.{observer_below}
 
 -- a test that each element passes makes no difference

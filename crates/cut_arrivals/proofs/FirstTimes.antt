@@ -6,8 +6,8 @@ use Rattle.std.proofs.lemmas.List.Elements.{All-filter}
 use Rattle.std.proofs.lemmas.List.Sums.{sum_by-cons}
 use Rattle.cut_lists.proofs.Counts.{list_any-count_by}
 use Rattle.cut_lists.proofs.Maps.{count_by-map, map-map, maps_agree}
-use Rattle.cut_ranks.specs.Ranks.{rank_at}
-use Rattle.cut_arrivals.specs.Rising.{IsRising}
+use Rattle.cut_arrivals.specs.ranks.Ranks.{rank_at}
+use Rattle.cut_arrivals.specs.proposals.Rising.{IsRising}
 use Rattle.cut_arrivals.proofs.RankLemmas.{rank_is}
 use Rattle.cut_arrivals.proofs.Rises.{ranks_rise}
 

@@ -17,7 +17,7 @@ unfoldable use Rattle.cut_detector.specs.Counts.{
   stable_members,
 }
 use Rattle.cut_detector.specs.Proposal.{proposal_of}
-use Rattle.cut_arrivals.specs.Times.{EdgeTimes, ComesAt, low_of, high_of, members_by, is_settled_by}
+use Rattle.cut_arrivals.specs.proposals.Times.{EdgeTimes, ComesAt, low_of, high_of, members_by, is_settled_by}
 use Rattle.cut_arrivals.proofs.Modes.{stable_from_high, unstable_between}
 
 -- where tests agree on a range, and what is made of its numbers does, so does what is made of the first that passes

@@ -9,13 +9,13 @@ use Rattle.cut_rings.specs.declared.edge.Edge.{Edge}
 use Rattle.cut_rings.specs.Edges.{is_edge, set_of, edge_number}
 use Rattle.cut_draws.specs.declared.delivery.Delivery.{Delivery}
 use Rattle.cut_draws.specs.DeliveryOrder.{copies_of}
-use Rattle.cut_blocks.specs.Images.{DeliveriesStandInBlocks, CopiesAreApart, image_at, never, place_in, row_of}
-unfoldable use Rattle.cut_blocks.specs.Images.{least_image}
-use Rattle.cut_ranks.specs.Ranks.{rank_at}
-use Rattle.cut_arrivals.specs.Reception.{Reception, deliveries_of, image_of, images_at}
+use Rattle.cut_arrivals.specs.blocks.Images.{DeliveriesStandInBlocks, CopiesAreApart, image_at, never, place_in, row_of}
+unfoldable use Rattle.cut_arrivals.specs.blocks.Images.{least_image}
+use Rattle.cut_arrivals.specs.ranks.Ranks.{rank_at}
+use Rattle.cut_arrivals.specs.proposals.Reception.{Reception, deliveries_of, image_of, images_at}
 use Rattle.cut_arrivals.proofs.RankLemmas.{rank_is}
 use Rattle.cut_arrivals.proofs.FirstTimes.{first_come}
-use Rattle.cut_ranks.proofs.Ranks.{one_rank}
+use Rattle.cut_arrivals.proofs.RanksRanks.{one_rank}
 use Rattle.cut_draws.proofs.FirstTimes.{least_more}
 
 -- the least has come exactly where some has

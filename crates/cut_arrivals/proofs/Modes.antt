@@ -11,8 +11,8 @@ use Rattle.cut_rings.specs.Edges.{EdgeSet}
 use Rattle.cut_detector.specs.Rule.{Rule}
 use Rattle.cut_detector.specs.Counts.{ring_count, full_count}
 unfoldable use Rattle.cut_detector.specs.Counts.{is_reported, is_full, is_stable, is_unstable}
-use Rattle.cut_arrivals.specs.Times.{EdgeTimes, ComesAt, IsRule, times_to}
-unfoldable use Rattle.cut_arrivals.specs.Times.{low_of, full_time, high_of}
+use Rattle.cut_arrivals.specs.proposals.Times.{EdgeTimes, ComesAt, IsRule, times_to}
+unfoldable use Rattle.cut_arrivals.specs.proposals.Times.{low_of, full_time, high_of}
 use Rattle.cut_arrivals.proofs.Tests.{lt_is_not_le}
 use Rattle.cut_arrivals.proofs.RankLemmas.{rank_is, rank_no_less}
 use Rattle.cut_detector.proofs.Modes.{marked-is}

@@ -8,10 +8,10 @@ use Rattle.std.proofs.lemmas.List.Folds.{Any-from_list_any}
 use Rattle.cut_lists.proofs.Counts.{counts-into, list_any-count_by}
 use Rattle.cut_lists.proofs.Ranks.{count_by_none}
 use Rattle.cut_lists.proofs.Parts.{count_le}
-unfoldable use Rattle.cut_ranks.specs.Ranks.{rank_at}
-use Rattle.cut_ranks.specs.Ranks.{has_rank, IsRank}
+unfoldable use Rattle.cut_arrivals.specs.ranks.Ranks.{rank_at}
+use Rattle.cut_arrivals.specs.ranks.Ranks.{has_rank, IsRank}
 use Rattle.cut_arrivals.proofs.Tests.{IsKept, turns}
-use Rattle.cut_ranks.proofs.Ranks.{one_rank}
+use Rattle.cut_arrivals.proofs.RanksRanks.{one_rank}
 
 -- what has come by a time has come by a later one
 pub count_by_time-le : (xs : List ℕ) (a b : ℕ) → a ≤ b → count_by (λ x. nat_le x a) xs ≤ count_by (λ x. nat_le x b) xs

@@ -7,14 +7,14 @@ use Rattle.cut_lists.proofs.Maps.{count_by-map, map-map}
 use Rattle.cut_lists.proofs.Ranks.{count_by_none}
 use Rattle.cut_rings.specs.Layout.{Layout}
 use Rattle.cut_detector.specs.Rule.{Rule}
-use Rattle.cut_ranks.specs.Ranks.{rank_at, has_rank, IsRank}
+use Rattle.cut_arrivals.specs.ranks.Ranks.{rank_at, has_rank, IsRank}
 use Rattle.cut_lists.proofs.Parts.{count_le}
-use Rattle.cut_arrivals.specs.Times.{EdgeTimes, times_to, IsRule}
-unfoldable use Rattle.cut_arrivals.specs.Times.{low_of, full_time, high_of}
-use Rattle.cut_arrivals.specs.Rising.{IsRising, moved}
+use Rattle.cut_arrivals.specs.proposals.Times.{EdgeTimes, times_to, IsRule}
+unfoldable use Rattle.cut_arrivals.specs.proposals.Times.{low_of, full_time, high_of}
+use Rattle.cut_arrivals.specs.proposals.Rising.{IsRising, moved}
 use Rattle.cut_arrivals.proofs.Tests.{both_imply}
 use Rattle.cut_arrivals.proofs.RankLemmas.{rank_is}
-use Rattle.cut_ranks.proofs.Ranks.{one_rank}
+use Rattle.cut_arrivals.proofs.RanksRanks.{one_rank}
 
 -- fewer than r have come by what is before the r-th
 too_few : (end last r : ℕ) (xs : List ℕ) (tau : ℕ → ℕ) → IsRising end last tau → 1 ≤ r → (x u : ℕ) → IsRank end r xs x

@@ -10,13 +10,13 @@ use Rattle.cut_lists.proofs.Ranges.{count_by_agree}
 use Rattle.cut_rings.specs.Layout.{observer_of}
 use Rattle.cut_rings.specs.Edges.{is_edge, set_of}
 use Rattle.cut_detector.specs.Counts.{is_gained, is_full, is_reported}
-use Rattle.cut_blocks.specs.Images.{ImagesAreBelowNever}
-use Rattle.cut_ranks.specs.Ranks.{IsRank}
-use Rattle.cut_arrivals.specs.Times.{times_to}
-unfoldable use Rattle.cut_arrivals.specs.Times.{low_of, full_time, high_of}
-use Rattle.cut_arrivals.specs.Candidates.{AreCandidates}
-use Rattle.cut_arrivals.specs.Reception.{Reception, IsReception, deliveries_of, image_of, images_at, lows_at, highs_at}
-use Rattle.cut_arrivals.specs.Values.{ArePresent, AreFullTimes}
+use Rattle.cut_arrivals.specs.blocks.Images.{ImagesAreBelowNever}
+use Rattle.cut_arrivals.specs.ranks.Ranks.{IsRank}
+use Rattle.cut_arrivals.specs.proposals.Times.{times_to}
+unfoldable use Rattle.cut_arrivals.specs.proposals.Times.{low_of, full_time, high_of}
+use Rattle.cut_arrivals.specs.proposals.Candidates.{AreCandidates}
+use Rattle.cut_arrivals.specs.proposals.Reception.{Reception, IsReception, deliveries_of, image_of, images_at, lows_at, highs_at}
+use Rattle.cut_arrivals.specs.proposals.Values.{ArePresent, AreFullTimes}
 use Rattle.cut_arrivals.proofs.RankLemmas.{rank_is, rank_of_alike}
 use Rattle.cut_arrivals.proofs.FirstTimes.{count_filter}
 use Rattle.cut_arrivals.proofs.Ends.{ends_come, ends_full, ends_reported_alike}

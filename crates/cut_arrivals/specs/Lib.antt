@@ -1,6 +1,6 @@
-pub mod Times
-pub mod Rising
-pub mod Candidates
-pub mod Reception
-pub mod Values
-pub mod Laws
+pub mod ranks
+pub mod blocks
+pub mod lanes
+pub mod proposals
+pub mod candidates
+pub mod receivers

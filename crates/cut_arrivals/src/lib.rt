@@ -1,9 +1,16 @@
-//! What a receiver proposes, by the times at which edges come to it.
+//! What four receivers of a trial propose, computed side by side by the times at which alerts come to them.
 //!
-//! A process that counts reports is stable from a time on, and unstable only before that: from the time at which
-//! enough edges to it have come for a report to the one at which enough rings count. So the proposal is that of the
-//! first time at which some process is stable and none is between its two times, and no delivery has to be replayed.
-//! Times may be places among the deliveries, or images of their keys. The crate has no code: [`laws`] say all this.
+//! The time of an alert at a receiver is the image of its key: the high 30 bits, which [`blocks`] computes for four
+//! receivers at once. [`candidates`] finds the processes that matter, and where the keys of their alerts stand. A process is
+//! reported and stable from two ranks of these images on, and a receiver proposes at the first time by which none is
+//! between: [`lanes`] computes both, and [`ranks`] has their words. [`proposals`] has the laws by which that is what a
+//! detector proposes, and [`receivers`] puts it together. Where equal images leave a proposal open, the receiver is in
+//! doubt, and its caller replays it by whole keys.
 #![tactic(auto)]
 
-pub mod laws;
+pub mod blocks;
+pub mod candidates;
+pub mod lanes;
+pub mod proposals;
+pub mod ranks;
+pub mod receivers;

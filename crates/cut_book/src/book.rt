@@ -3,7 +3,7 @@ ghost use Rattle.std.specs.Prelude.{length, is_some, replicate, slice_get, slice
 ghost use Rattle.std.specs.Prelude.{IsTrue, IfSome, IfNone, IfOk, IfErr, OnOk, IsErr, IsErrOf, IsSome, All};
 ghost use Rattle.std.specs.Prelude.{option_copied};
 ghost use Rattle.std.specs.List.{list_any};
-ghost use Rattle.cut_lines.specs.declared.line.TheConstants.{LONGEST_LINE};
+ghost use Rattle.cut_ledger.specs.declared.lines.line.TheConstants.{LONGEST_LINE};
 ghost use Rattle.cut_faults.specs.Failures.{one_more};
 ghost use Rattle.cut_plan.specs.Cells.{cells_of};
 ghost use Rattle.cut_plan.specs.Plan.{IsPlan};
@@ -30,7 +30,7 @@ ghost use Rattle.cut_book.specs.Book.{IsAsKnown};
 
 use crate::append::append;
 use crate::{Answer, BookFault, Call, History};
-use bit_list::BitList;
+use cut_sets::bits::BitList;
 use cut_disks::Disk;
 use cut_journal::Journal;
 use cut_journal::laws::{crashes_are_resumptions, journals_begin_with_their_runs};

@@ -4,7 +4,7 @@
 use cut_commands::CliFault;
 use cut_disks::{FaultyDisk, Tear};
 use cut_files::{MemoryFiles, SystemFiles};
-use cut_join::join as join_slips;
+use cut_shares::join::join as join_slips;
 use cut_journal::Journal;
 use cut_ledger::Slip;
 use cut_machines::{Joined, JoinedFiles, join};

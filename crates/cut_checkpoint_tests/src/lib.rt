@@ -1,4 +1,4 @@
-//! What no contract of `cut_disks`, `cut_journal`, `cut_status`, `cut_migration`, `cut_share`, `cut_join` and `cut_machines`
+//! What no contract of `cut_disks`, `cut_journal`, `cut_status`, `cut_migration`, `cut_shares` and `cut_machines`
 //! says: real files, which calls a journal makes, disks that fail at each call, what is printed, and which machine has
 //! which trial of a small plan; that the commands of shares and joins succeed, and how they end where disks, wires and
 //! allocations fail.

@@ -10,7 +10,7 @@ use cut_machines::{ShareWork, share};
 use cut_outcome::{Gate, OpenGate};
 use cut_plan::Plan;
 use cut_pool_cases::{Calls, MeetingGate, NotingGate};
-use cut_share::Share;
+use cut_shares::share::Share;
 use cut_wires::{FaultyWire, Sent};
 use std::alloc::{AllocError, Global};
 use std::sync::Wait;

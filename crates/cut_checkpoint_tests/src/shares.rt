@@ -6,7 +6,7 @@ use cut_journal::Journal;
 use cut_ledger::Slip;
 use cut_outcome::OpenGate;
 use cut_plan::Plan;
-use cut_share::{Share, ShareRun};
+use cut_shares::share::{Share, ShareRun};
 use std::alloc::Global;
 use std::sync::Wait;
 use std::test::Fail;

@@ -9,7 +9,7 @@ use Rattle.std.proofs.lemmas.List.Sums.{passes_at_first, position_or_len_is, spl
 use Rattle.std.proofs.lemmas.Bool.Decides.{nat_tests}
 use Rattle.clap.specs.Words.{Text}
 use Rattle.clap.proofs.CutLemmas.{Lacks, after_first-at, before_first-at}
-use Rattle.cut_options.specs.declared.limits.TheConstants.{MOST_SHARES}
+use Rattle.cut_command_line.specs.declared.options.limits.TheConstants.{MOST_SHARES}
 use Rattle.cut_command_line.specs.Line.{IsDigitsIn}
 
 -- a byte is a slash

@@ -1,2 +1,3 @@
+pub mod options
 pub mod Line
 pub mod inside

@@ -3,9 +3,9 @@ use Rattle.std.specs.Prelude.{◌≡◌, ◌⊎◌, ◌≤◌, ◌++◌, ℕ, Bo
 use Rattle.std.specs.Prelude.{Option, Some, None, option_map, map, ⊤}
 use Rattle.std.specs.Borrow.{Bor}
 use Rattle.std.specs.Str.Parse.{IsNumeral, digits_value, without_leading_plus}
-use Rattle.cut_options.specs.declared.limits.TheConstants.{LARGEST_PIECE, MOST_CHECKPOINTS, MOST_OF_EACH}
-use Rattle.cut_options.specs.declared.limits.TheConstants.{MOST_SHARES, MOST_WORKERS}
-use Rattle.cut_options.specs.Options.{program_app}
+use Rattle.cut_command_line.specs.declared.options.limits.TheConstants.{LARGEST_PIECE, MOST_CHECKPOINTS, MOST_OF_EACH}
+use Rattle.cut_command_line.specs.declared.options.limits.TheConstants.{MOST_SHARES, MOST_WORKERS}
+use Rattle.cut_command_line.specs.options.Options.{program_app}
 use Rattle.clap.specs.Words.{IsAmong, all_of, first_of, Row, Text, fault_of, one_of, subcommand_of}
 use Rattle.clap.specs.declared.error.kind.ErrorKind.{ErrorKind}
 use Rattle.clap.specs.declared.error.kind.ErrorKind.TheVariants.{DisplayHelp, DisplayVersion, OutOfMemory}

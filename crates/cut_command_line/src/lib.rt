@@ -1,6 +1,7 @@
 //! The command line of the program: what its words ask for, and what is wrong with them, as clap says it.
 #![tactic(auto)]
 
+pub mod options;
 mod line;
 mod machines;
 

@@ -1,6 +1,6 @@
 ghost use Rattle.std.specs.Prelude.{◌≡◌, ℕ, [], codes, map, string_bytes, IfOk, IfErr, IfSome, IfNone};
 ghost use Rattle.clap.specs.Words.{app_of, fault_of, found_of, rows_of, subcommand_rows_of};
-ghost use Rattle.cut_options.specs.Options.{program_app};
+ghost use Rattle.cut_command_line.specs.options.Options.{program_app};
 ghost use Rattle.cut_command_line.specs.Line.{EndsLine, GivesFlag, GivesNumber, GivesPlan, IsSizedJob};
 ghost use Rattle.cut_command_line.specs.inside.Line.{GivesJob, IsJobOf};
 ghost use Rattle.cut_command_line.specs.Line.{NamesJob, status_of_kind};
@@ -9,7 +9,7 @@ ghost use Rattle.cut_command_line.specs.declared.line.Job.{Job};
 use crate::machines::{TOO_MANY_FILES, WRONG_SHARE, join_job, share_job};
 use clap::error::ErrorKind;
 use clap::{ArgMatches, Command, Error};
-use cut_options::{
+use crate::options::{
     JOIN_USAGE, LARGEST_PIECE, MOST_OF_EACH, MOST_WORKERS, SHARE_USAGE, program_commands,
 };
 use std::alloc::{AllocError, Global};

@@ -2,7 +2,7 @@
 use Rattle.std.specs.Prelude.{◌≡◌, ◌⊎◌, ℕ, List, [], Option, Some, None, Result, Ok, Err, ⊤}
 use Rattle.cut_plan.specs.Values.{Values}
 use Rattle.cut_plan.specs.Plan.{IsPlan}
-use Rattle.cut_lines.specs.Lines.{table}
+use Rattle.cut_ledger.specs.lines.Lines.{table}
 use Rattle.cut_disks.specs.Log.{DiskLog, IsKnown, on}
 use Rattle.cut_files.specs.Place.{Place, MayNotOpen, OpensAs, opened}
 use Rattle.cut_files.specs.declared.files.Mode.TheVariants.{Create}

@@ -3,7 +3,7 @@ ghost use Rattle.std.specs.Io.{StartsWith};
 ghost use Rattle.cut_plan.specs.Accepted.{plan_of};
 ghost use Rattle.cut_explain.specs.FirstLine.{first_line};
 
-use cut_findings::{describe_plan, list_findings};
+use crate::findings::{describe_plan, list_findings};
 use cut_plan::{Plan, PlanFault, Refusal};
 use std::alloc::{AllocError, Global};
 

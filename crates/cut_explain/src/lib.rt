@@ -4,10 +4,11 @@
 //! for a plan, how large its study is. [`estimate_study`] runs a few trials of a plan, and estimates by a processor's
 //! clock how long all of them take.
 //!
-//! That the first line is right is proved. The lines after it are help, which `cut_findings` writes, and only the tests
+//! That the first line is right is proved. The lines after it are help, which [`findings`] writes, and only the tests
 //! say what they are.
 #![tactic(auto)]
 
+pub mod findings;
 mod estimates;
 mod explanations;
 

@@ -1,6 +1,6 @@
 ghost use Rattle.std.specs.Prelude.{true, false, Some, None, ◌≡◌, ◌+◌, ◌<◌, ◌≤◌, length, vec_len, All, IfOk, IfSome, OnErr};
 ghost use Rattle.std.specs.Prelude.{IfErr};
-ghost use Rattle.cut_lines.specs.declared.line.TheConstants.{LONGEST_LINE};
+ghost use Rattle.cut_ledger.specs.declared.lines.line.TheConstants.{LONGEST_LINE};
 ghost use Rattle.cut_plan.specs.Cells.{cells_of};
 ghost use Rattle.cut_board.specs.Views.{idle, read, seen_in};
 ghost use Rattle.cut_board.specs.Refusals.{IsRefusedBy, read_refusal};

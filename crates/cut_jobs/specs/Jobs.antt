@@ -8,7 +8,7 @@ use Rattle.cut_progress.specs.Printed.{HasPrinted}
 use Rattle.cut_files.specs.Place.{Place, StaysElsewhere, while_open}
 use Rattle.cut_sockets.specs.Peer.{KeepsOtherPeers}
 use Rattle.cut_machines.specs.JoinCommand.{EndsJoin, NamesRefusedFile}
-use Rattle.cut_share.specs.declared.share.Share as share
+use Rattle.cut_shares.specs.declared.share.share.Share as share
 use Rattle.cut_machines.specs.Share.{EndsShare}
 use Rattle.cut_commands.specs.Ask.{EndsAsk}
 use Rattle.cut_commands.specs.Migrate.{EndsMigrate, StaysBeside}

@@ -7,7 +7,7 @@ use Rattle.clap.specs.declared.error.kind.ErrorKind.{ErrorKind}
 use Rattle.clap.specs.declared.error.kind.ErrorKind.TheVariants.{OutOfMemory}
 use Rattle.cut_wires.specs.Log.{WireLog, wrote}
 use Rattle.cut_wires.specs.declared.send.Sent.{Sent}
-use Rattle.cut_options.specs.Options.{program_app}
+use Rattle.cut_command_line.specs.options.Options.{program_app}
 use Rattle.cut_command_line.specs.Line.{NamesJob, status_of_kind, IsAsked}
 use Rattle.cut_command_line.specs.declared.line.Job.{Job}
 use Rattle.cut_commands.specs.Faults.{fault_line, status_of}

@@ -15,7 +15,7 @@ use cut_commands::{
 use cut_files::Files;
 use cut_machines::JoinedFiles;
 use cut_server::{Capacity, serve_at};
-use cut_share::Share;
+use cut_shares::share::Share;
 use cut_sockets::Sockets;
 use cut_wires::Wire;
 use std::sync::Wait;

@@ -7,7 +7,7 @@ use cut_commands::CliFault;
 use cut_files::Files;
 use cut_hall::Gate;
 use cut_machines::{ShareWork, share};
-use cut_share::Share;
+use cut_shares::share::Share;
 use cut_wires::Wire;
 use std::sync::Wait;
 use std::thread::Threads;

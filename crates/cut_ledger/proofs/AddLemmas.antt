@@ -10,7 +10,7 @@ use Rattle.std.proofs.lemmas.List.Sums.{sum_by_push}
 use Rattle.cut_lists.proofs.Ranges.{filter_agree_on, count_by_agree, none_passing}
 use Rattle.cut_lists.proofs.Additions.{PassesPart, count_of_more, sum_of_more}
 use Rattle.cut_outcome.specs.Outcome.{outcome}
-use Rattle.range_set.specs.Held as held
+use Rattle.cut_sets.specs.ranges.Held as held
 use Rattle.cut_ledger.specs.inside.HeldTrials.{AreSumsOf, sum_at}
 use Rattle.cut_ledger.proofs.Words.{AreKept, IsAdded, IsAtMost, IsTrue, Piece, Slip, Totals, Values}
 use Rattle.cut_ledger.proofs.Words.{count_by, each_number, further_trials, is_in, is_in_base}

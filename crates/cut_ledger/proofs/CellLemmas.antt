@@ -17,7 +17,7 @@ use Rattle.cut_lists.proofs.Counts.{filter-none}
 use Rattle.std.proofs.lemmas.List.Elements.{All-from_recursion}
 use Rattle.cut_plan.proofs.CellFacts.{every-cells}
 use Rattle.cut_outcome.specs.Outcome.{cell_at}
-use Rattle.range_set.specs.Held as held
+use Rattle.cut_sets.specs.ranges.Held as held
 use Rattle.cut_ledger.specs.inside.HeldTrials.{span_of, sum_at}
 
 -- ---- trials and their cells

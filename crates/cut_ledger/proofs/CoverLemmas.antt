@@ -8,8 +8,8 @@ use Rattle.std.proofs.lemmas.List.Elements.{filter-append}
 use Rattle.std.proofs.lemmas.List.FromFn.{map-range_with_len_more}
 use Rattle.cut_lists.proofs.FlatMaps.{flat_map-flat_map, flat_map-agree}
 use Rattle.cut_lists.proofs.Ranges.{ranges-join}
-use Rattle.range_set.specs.Laws.{SpansCover}
-use Rattle.range_set.specs.Spans.{spans}
+use Rattle.cut_sets.specs.ranges.Laws.{SpansCover}
+use Rattle.cut_sets.specs.ranges.Spans.{spans}
 use Rattle.cut_ledger.proofs.Words.{Contents, Piece, all_trials, cells_of, div_ceil, flat_map}
 use Rattle.cut_ledger.proofs.Words.{gaps_of, has, part_of, parts_of, piece_at, pieces_of, range_with_len, trial_count}
 use Rattle.cut_ledger.proofs.Words.{trials_in}

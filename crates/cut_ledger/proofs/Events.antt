@@ -8,7 +8,7 @@ use Rattle.std.proofs.lemmas.Bool.Decides.{nat_tests}
 use Rattle.cut_faults.specs.declared.code.FaultCode.TheVariants as code
 use Rattle.cut_lists.proofs.Intervals.{list_all_passing, passes_at}
 use Rattle.cut_lists.proofs.Ranges.{none_passing}
-use Rattle.cut_lines.specs.Lines.{table}
+use Rattle.cut_ledger.specs.lines.Lines.{table}
 use Rattle.cut_ledger.specs.declared.event.Event.TheVariants.{Draw, HandIn, HandInDiskFails, Lose, CrashReopen, Emit}
 use Rattle.cut_ledger.specs.declared.event.Event.TheVariants.{WireFails, NewWire, Finish}
 use Rattle.cut_ledger.specs.declared.event.Reply as replies

@@ -19,7 +19,7 @@ use Rattle.cut_lists.proofs.Parts.{count_first}
 use Rattle.cut_lists.proofs.Ranges.{list_any_none_passing}
 use Rattle.cut_lists.proofs.Prefixes.{flat_map_prefix, whole_prefix}
 use Rattle.cut_plan.specs.Failing.{version_of}
-use Rattle.cut_lines.specs.Lines.{header, line_with, table}
+use Rattle.cut_ledger.specs.lines.Lines.{header, line_with, table}
 use Rattle.cut_ledger.specs.declared.slip.Slip.{Slip}
 use Rattle.cut_ledger.specs.Contents.{Contents, has, held_where, is_in, is_in_base, over_base, with_piece}
 use Rattle.cut_ledger.specs.Contents.{overlaps, cell_done, cell_sum, is_complete}
@@ -28,7 +28,7 @@ use Rattle.cut_ledger.specs.Laws.{with_pieces, AreFilling}
 use Rattle.cut_ledger.specs.Machine.{available}
 use Rattle.cut_ledger.specs.Table.{full_sum, table_over}
 use Rattle.cut_ledger.specs.World.{AreTrue, times_in}
-use Rattle.range_set.specs.Laws.{SpansCover}
+use Rattle.cut_sets.specs.ranges.Laws.{SpansCover}
 use Rattle.cut_ledger.proofs.CoverLemmas.{pieces_cover}
 use Rattle.cut_ledger.proofs.CellLemmas.{held_at}
 use Rattle.cut_ledger.proofs.FullSums.{done_sum}

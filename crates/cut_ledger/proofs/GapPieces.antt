@@ -4,8 +4,8 @@ use Rattle.std.proofs.Common.{arith}
 use Rattle.std.proofs.lemmas.List.Elements.{All-map}
 use Rattle.cut_lists.proofs.FlatMaps.{All-flat_map}
 use Rattle.cut_lists.proofs.Ranges.{All-range_with_len}
-use Rattle.range_set.specs.Laws.{SpansWithin}
-use Rattle.range_set.specs.Spans.{spans}
+use Rattle.cut_sets.specs.ranges.Laws.{SpansWithin}
+use Rattle.cut_sets.specs.ranges.Spans.{spans}
 use Rattle.cut_ledger.proofs.Words.{Contents, IsPlan, IsTrue, Piece, Values, cells_of, div_ceil}
 use Rattle.cut_ledger.proofs.Words.{gaps_of, has, is_piece, part_of, parts_of, piece_at, pieces_of, range_with_len}
 use Rattle.cut_ledger.proofs.CellLemmas.{piece_facts, cell_is}

@@ -5,7 +5,7 @@ use Rattle.std.proofs.lemmas.Bool.Decides.{nat_tests}
 use Rattle.std.proofs.lemmas.List.{map-append}
 use Rattle.std.proofs.lemmas.List.Sums.{sum_by-append, sum_by_push}
 use Rattle.cut_lists.proofs.Parts.{count_first}
-use Rattle.cut_lines.specs.Lines.{table}
+use Rattle.cut_ledger.specs.lines.Lines.{table}
 use Rattle.cut_ledger.proofs.Words.{AllByRecursion, AreTrue, IsReached, IsTrueSlip, Piece, Slip, Values, World, begun}
 use Rattle.cut_ledger.proofs.Words.{has, held_where, is_in, is_in_base, is_piece, one_if, opened, over_base}
 use Rattle.cut_ledger.proofs.Words.{pieces_of_slips, slice_index_or, start, times_in, trial_count}

@@ -7,7 +7,7 @@ use Rattle.std.proofs.lemmas.List.{take-append-le, take_min}
 use Rattle.std.proofs.lemmas.List.Concat.{flat_map-append}
 use Rattle.cut_lists.proofs.Prefixes.{flat_map_prefix, longer_prefix, whole_prefix}
 use Rattle.cut_lists.proofs.Intervals.{list_all_passing, passes_at}
-use Rattle.cut_lines.specs.Lines.{table}
+use Rattle.cut_ledger.specs.lines.Lines.{table}
 use Rattle.cut_plan.specs.Failing.{version_of}
 use Rattle.cut_ledger.proofs.Words.{Contents, IsFounded, Values, all_trials, available, cell_done}
 use Rattle.cut_ledger.proofs.Words.{cells_of, flat_map, has, header, is_complete, line_of}

@@ -5,7 +5,7 @@ use Rattle.std.proofs.lemmas.List.Elements.{All-head, All-tail}
 use Rattle.std.proofs.lemmas.List.FromFn.{length-range_with_len}
 use Rattle.std.proofs.lemmas.List.Sums.{count_by-le-length, length-filter}
 use Rattle.std.proofs.lemmas.Nat.{mul-le}
-use Rattle.range_set.specs.Laws.{SpansCover, SpansWithin}
+use Rattle.cut_sets.specs.ranges.Laws.{SpansCover, SpansWithin}
 use Rattle.cut_ledger.proofs.Words.{Contents, IsPlan, Piece, Values, all_trials, cells_of, flat_map, gaps_of, has}
 use Rattle.cut_ledger.proofs.Words.{pieces_of, trial_count, trials_in}
 use Rattle.cut_ledger.proofs.CellLemmas.{piece_facts}

@@ -6,7 +6,7 @@ use Rattle.std.proofs.lemmas.List.FromFn.{length-map-range_with_len}
 use Rattle.cut_lists.proofs.Intervals.{within_is}
 use Rattle.cut_lists.proofs.Ranges.{list_any_agree}
 use Rattle.cut_outcome.specs.Outcome.{cell_at}
-use Rattle.range_set.specs.Held as held
+use Rattle.cut_sets.specs.ranges.Held as held
 use Rattle.cut_ledger.specs.inside.HeldTrials.{HoldsExactly}
 use Rattle.cut_ledger.proofs.Words.{AreGood, AreGoodUpTo, AreOver, ArePossible, IsAdded, IsAtMost, IsFirstBad}
 use Rattle.cut_ledger.proofs.Words.{IsGood, IsTrue, Piece, Slip, Totals, Values, contents_in, is_in, is_in_base}

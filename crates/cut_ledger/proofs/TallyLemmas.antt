@@ -13,9 +13,9 @@ use Rattle.cut_lists.proofs.Additions.{PassesPart, count_of_more}
 use Rattle.cut_lists.proofs.Intervals.{within_is}
 use Rattle.cut_lists.proofs.Ranges.{All-range_with_len, none_passing}
 use Rattle.cut_lists.proofs.Ranks.{count_by_none}
-use Rattle.range_set.specs.Held as held
+use Rattle.cut_sets.specs.ranges.Held as held
 use Rattle.cut_ledger.specs.Tally.{Tally, HasAdded, HasJudged, IsTallyOver}
-use Rattle.range_set.specs.declared.span.Span.{Span}
+use Rattle.cut_sets.specs.declared.ranges.span.Span.{Span}
 use Rattle.cut_ledger.specs.inside.HeldTrials.{CanBeAdded, HoldsExactly, span_of}
 use Rattle.cut_ledger.proofs.Words.{AreGood, AreGoodUpTo, IsFirstBad, IsGood, IsPlan, Piece, Slip, Totals, Values}
 use Rattle.cut_ledger.proofs.Words.{all_trials, count_by, is_in, trial_count}

@@ -17,7 +17,7 @@ pub use Rattle.cut_ledger.specs.World.{AreTrue, HasTrueResult, IsRight, IsTrueSl
 pub use Rattle.cut_ledger.specs.World.{begun, bytes_after, pieces_of_slips, run, step, times_in}
 pub use Rattle.cut_ledger.specs.declared.event.Event.{Event}
 pub use Rattle.cut_ledger.specs.declared.slip.Slip.{Slip}
-pub use Rattle.cut_lines.specs.Lines.{header, line_with}
+pub use Rattle.cut_ledger.specs.lines.Lines.{header, line_with}
 pub use Rattle.cut_plan.specs.Cells.{cells_of, trial_count}
 pub use Rattle.cut_plan.specs.Plan.{IsPlan}
 pub use Rattle.cut_plan.specs.Values.{Values}

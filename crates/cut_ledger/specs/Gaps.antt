@@ -4,8 +4,8 @@ use Rattle.std.specs.List.{range_with_len, flat_map}
 use Rattle.std.specs.Int.{div_ceil}
 use Rattle.cut_plan.specs.Cells.{cells_of}
 use Rattle.cut_outcome.specs.declared.piece.Piece.{Piece}
-use Rattle.range_set.specs.declared.span.Span.{Span}
-use Rattle.range_set.specs.Spans.{spans}
+use Rattle.cut_sets.specs.declared.ranges.span.Span.{Span}
+use Rattle.cut_sets.specs.ranges.Spans.{spans}
 use Rattle.cut_ledger.specs.Contents.{Contents, has}
 
 -- the piece whose trials have the numbers of a span

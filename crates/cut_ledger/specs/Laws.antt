@@ -7,7 +7,7 @@ use Rattle.cut_plan.specs.Plan.{IsPlan}
 use Rattle.cut_plan.specs.Values.{Values}
 use Rattle.cut_outcome.specs.declared.piece.Piece.{Piece}
 use Rattle.cut_outcome.specs.Sum.{is_piece, sum_of, trials_in, trials_of_cell}
-use Rattle.cut_lines.specs.Lines.{table}
+use Rattle.cut_ledger.specs.lines.Lines.{table}
 use Rattle.cut_ledger.specs.declared.slip.Slip.{Slip}
 use Rattle.cut_ledger.specs.Contents.{Contents, has, all_trials, over_base, with_piece, overlaps, cell_done}
 use Rattle.cut_ledger.specs.Contents.{is_complete, is_in_base}

@@ -1,3 +1,4 @@
+pub mod lines
 pub mod Contents
 pub mod Gaps
 pub mod Slips

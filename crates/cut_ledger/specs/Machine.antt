@@ -12,7 +12,7 @@ use Rattle.cut_plan.specs.Failing.{version_of}
 use Rattle.cut_outcome.specs.Computed.{Computed}
 use Rattle.cut_outcome.specs.declared.piece.Piece as pieces
 use Rattle.cut_outcome.specs.Sum.{sum_of, trials_in}
-use Rattle.cut_lines.specs.Lines.{header, line_with}
+use Rattle.cut_ledger.specs.lines.Lines.{header, line_with}
 use Rattle.cut_ledger.specs.declared.slip.Slip.{Slip}
 use Rattle.cut_ledger.specs.declared.event.Event.{Event}
 use Rattle.cut_ledger.specs.declared.event.Event.TheVariants.{Draw, HandIn, HandInDiskFails, Lose}

@@ -6,7 +6,7 @@ use Rattle.cut_plan.specs.Cells.{cells_of}
 use Rattle.cut_plan.specs.Failing.{version_of}
 use Rattle.cut_outcome.specs.declared.totals.Totals.{Totals}
 use Rattle.cut_outcome.specs.Sum.{plus, sum_of, trials_of_cell}
-use Rattle.cut_lines.specs.Lines.{header, line_with}
+use Rattle.cut_ledger.specs.lines.Lines.{header, line_with}
 use Rattle.cut_ledger.specs.declared.slip.Slip.{Slip}
 use Rattle.cut_ledger.specs.Contents.{is_in_base, slip_sum, slips_of_cell}
 

@@ -6,7 +6,7 @@ use Rattle.cut_plan.specs.Plan.{IsPlan}
 use Rattle.cut_outcome.specs.Outcome.{one_if}
 use Rattle.cut_outcome.specs.declared.piece.Piece as pieces
 use Rattle.cut_outcome.specs.Sum.{is_piece, sum_of, trials_in}
-use Rattle.cut_lines.specs.Lines.{table}
+use Rattle.cut_ledger.specs.lines.Lines.{table}
 use Rattle.cut_ledger.specs.declared.slip.Slip.{Slip}
 use Rattle.cut_ledger.specs.declared.event.Event.{Event}
 use Rattle.cut_ledger.specs.declared.event.Event.TheVariants.{HandIn, HandInDiskFails, CrashReopen, NewWire}

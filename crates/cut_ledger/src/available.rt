@@ -5,7 +5,7 @@ ghost use Rattle.cut_ledger.specs.Contents.{cell_done};
 ghost use Rattle.cut_ledger.specs.Machine.{available};
 
 use crate::Ledger;
-use cut_lines::{cell_line, header};
+use crate::lines::{cell_line, header};
 use std::alloc::{AllocError, Global};
 
 /// The part of a study's table that can be written: the header, and the lines of the first cells that are

@@ -7,13 +7,13 @@ ghost use Rattle.cut_ledger.specs.declared.slip.Slip as slips;
 ghost use Rattle.cut_ledger.specs.Gaps.{piece_at};
 ghost use Rattle.cut_ledger.specs.inside.HeldTrials.{AreKept, AreOver, CanBeAdded, HoldsExactly, IsAdded, span_of};
 ghost use Rattle.cut_ledger.specs.Slips.{IsGood};
-ghost use Rattle.range_set.specs.Held.{has, has_room};
+ghost use Rattle.cut_sets.specs.ranges.Held.{has, has_room};
 
 use crate::Slip;
 use crate::possible::is_possible;
 use cut_outcome::{Piece, Totals, is_piece};
 use cut_plan::Plan;
-use range_set::{RangeSet, Span};
+use cut_sets::ranges::{RangeSet, Span};
 use std::alloc::{AllocError, Global};
 
 /// Which trials of a plan are held, a section for each cell, and the sums over those of each cell.

@@ -14,7 +14,7 @@ ghost use Rattle.cut_ledger.specs.World.{begun, run, HasTrueResult, IsRight, Say
 
 use cut_outcome::laws::pieces_have_possible_totals;
 use cut_plan::canonical_text_reads_back;
-use range_set::laws::spans_are_what_passes;
+use cut_sets::ranges::laws::spans_are_what_passes;
 
 /// The gaps, and the pieces of any size that they are cut into, have exactly the trials that are not held,
 /// each of them once.

@@ -15,8 +15,8 @@ use crate::held_trials::{HeldTrials, is_good, pieces_at, span_of_cell};
 use crate::{Base, Division, OfferFault, Slip, SlipsFault};
 use cut_outcome::{Piece, PieceResult, Totals};
 use cut_plan::Plan;
-use range_set::Span;
-use range_set::laws::spans_are_what_passes;
+use cut_sets::ranges::Span;
+use cut_sets::ranges::laws::spans_are_what_passes;
 use std::alloc::{AllocError, Global};
 use std::marker::Model;
 

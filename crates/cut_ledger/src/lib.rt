@@ -5,6 +5,7 @@
 //! [`laws`] say what every run keeps.
 #![tactic(auto)]
 
+pub mod lines;
 mod available;
 mod base;
 mod bytes;

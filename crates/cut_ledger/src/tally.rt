@@ -8,7 +8,7 @@ ghost use Rattle.cut_ledger.specs.declared.slip.Slip as slips;
 use crate::Slip;
 use crate::held_trials::{is_good, span_of, span_of_cell};
 use cut_plan::Plan;
-use range_set::RangeSet;
+use cut_sets::ranges::RangeSet;
 use std::alloc::{AllocError, Global};
 use std::marker::Model;
 

@@ -16,11 +16,11 @@ use Rattle.cut_ledger.specs.declared.slip.Slip.{Slip}
 use Rattle.cut_ledger.specs.Laws.{TrueSlipsAreGood}
 use Rattle.cut_ledger.specs.World.{AreTrue, IsTrueSlip, pieces_of_slips, times_in}
 use Rattle.cut_ledger.proofs.Law.{times-append, times_once}
-use Rattle.cut_share.specs.Blocks.{block_of}
-use Rattle.cut_share.specs.Running.{AreWhole, is_lacking}
-use Rattle.cut_share.specs.Share.{has_block}
-use Rattle.cut_join.specs.Joined.{joined}
-use Rattle.cut_join.specs.Laws.{JoinedAreTrue, JoinedHaveTheTrials}
+use Rattle.cut_shares.specs.share.Blocks.{block_of}
+use Rattle.cut_shares.specs.share.Running.{AreWhole, is_lacking}
+use Rattle.cut_shares.specs.share.Share.{has_block}
+use Rattle.cut_shares.specs.join.Joined.{joined}
+use Rattle.cut_shares.specs.join.Laws.{JoinedAreTrue, JoinedHaveTheTrials}
 use Rattle.cut_machines.specs.Laws.{AreComplete, AreFilesOfShares, FileOfShare, IsFileOfShare, Sharing}
 use Rattle.cut_machines.specs.Laws.{all_slips, files_of_share}
 

@@ -13,10 +13,10 @@ use Rattle.cut_journal.specs.Journal.{AppendsEach, IsFileOf, JournalValue, Reads
 use Rattle.cut_journal.specs.Opening.{IsBegunFile, IsNewStudy, is_unclaimed}
 use Rattle.cut_journal.specs.Reading.{reading}
 use Rattle.cut_journal.proofs.Moments.{and_then, weaker}
-use Rattle.cut_join.specs.declared.fault.JoinFault.{JoinFault}
-use Rattle.cut_join.specs.declared.fault.JoinFault.TheVariants as join
-use Rattle.cut_join.specs.Joined.{joined}
-use Rattle.cut_join.specs.Joining.{EndsJoin}
+use Rattle.cut_shares.specs.declared.join.fault.JoinFault.{JoinFault}
+use Rattle.cut_shares.specs.declared.join.fault.JoinFault.TheVariants as join
+use Rattle.cut_shares.specs.join.Joined.{joined}
+use Rattle.cut_shares.specs.join.Joining.{EndsJoin}
 use Rattle.cut_migration.specs.declared.fault.MigrateFault.TheVariants as migration
 use Rattle.cut_commands.specs.declared.fault.CliFault.{CliFault}
 use Rattle.cut_commands.specs.declared.fault.CliFault.TheVariants.{Memory, Migrate}

@@ -5,7 +5,7 @@ use Rattle.cut_plan.specs.Cells.{trial_count}
 use Rattle.cut_plan.specs.Values.{Values}
 use Rattle.cut_ledger.specs.declared.slip.Slip.{Slip}
 use Rattle.cut_status.specs.Status.{held_trials}
-use Rattle.cut_join.specs.Joined.{joined}
+use Rattle.cut_shares.specs.join.Joined.{joined}
 use Rattle.cut_machines.specs.JoinCommand.{joined_text}
 
 abbrev pub line_parts : ℕ → ℕ → ℕ → ℕ → List ℕ

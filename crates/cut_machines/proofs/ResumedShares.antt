@@ -9,8 +9,8 @@ use Rattle.cut_ledger.specs.declared.slip.Slip.{Slip}
 use Rattle.cut_ledger.specs.Contents.{is_in, is_in_base}
 use Rattle.cut_ledger.specs.World.{pieces_of_slips, times_in}
 use Rattle.cut_ledger.proofs.Law.{one_if-le, times-append, times_once}
-use Rattle.cut_share.specs.declared.share.Share.{Share}
-use Rattle.cut_share.specs.Running.{AreOfShare, AreWhole, is_lacking}
+use Rattle.cut_shares.specs.declared.share.share.Share.{Share}
+use Rattle.cut_shares.specs.share.Running.{AreOfShare, AreWhole, is_lacking}
 
 -- ---- first slips
 

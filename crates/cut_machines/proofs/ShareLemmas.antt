@@ -10,11 +10,11 @@ use Rattle.cut_ledger.specs.declared.slip.Slip.{Slip}
 use Rattle.cut_journal.specs.declared.fault.JournalFault.{JournalFault}
 use Rattle.cut_journal.specs.Journal.{AppendsEach, JournalValue, IsFileOf, ReadsAs, kept_slips, slips_of}
 use Rattle.cut_journal.specs.Opening.{IsOpened}
-use Rattle.cut_share.specs.declared.fault.ShareFault.{ShareFault}
-use Rattle.cut_share.specs.declared.fault.ShareFault.TheVariants as share
-use Rattle.cut_share.specs.declared.share.Share.{Share}
-use Rattle.cut_share.specs.Appending.{Adds}
-use Rattle.cut_share.specs.Running.{AreOfShare, EndsShare}
+use Rattle.cut_shares.specs.declared.share.fault.ShareFault.{ShareFault}
+use Rattle.cut_shares.specs.declared.share.fault.ShareFault.TheVariants as share
+use Rattle.cut_shares.specs.declared.share.share.Share.{Share}
+use Rattle.cut_shares.specs.share.Appending.{Adds}
+use Rattle.cut_shares.specs.share.Running.{AreOfShare, EndsShare}
 use Rattle.cut_wires.specs.Log.{WireLog}
 use Rattle.cut_files.specs.Place.{Place}
 use Rattle.cut_commands.specs.Run.{GivesPlanFrom, IsReadAs, IsWritten, LeavesStudy}

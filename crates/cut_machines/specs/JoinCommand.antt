@@ -14,7 +14,7 @@ use Rattle.cut_ledger.specs.declared.slip.Slip.{Slip}
 use Rattle.cut_ledger.specs.Slips.{AreGood}
 use Rattle.cut_journal.specs.declared.fault.JournalFault.{JournalFault}
 use Rattle.cut_status.specs.Status.{held_trials, part_text}
-use Rattle.cut_join.specs.Joined.{joined}
+use Rattle.cut_shares.specs.join.Joined.{joined}
 use Rattle.cut_commands.specs.Faults.{IsRefusalOfNew, IsRefusalOfOld, fault_of_files}
 use Rattle.cut_commands.specs.Run.{CommandAnswers, EndsRead, GivesPlanFrom, HasUnread, plan_place}
 use Rattle.cut_commands.specs.Task.{Task}

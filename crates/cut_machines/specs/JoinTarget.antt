@@ -3,7 +3,7 @@ use Rattle.std.specs.Prelude.{List, Result, ⊤}
 use Rattle.cut_plan.specs.Values.{Values}
 use Rattle.cut_disks.specs.State.{DiskState}
 use Rattle.cut_ledger.specs.declared.slip.Slip.{Slip}
-use Rattle.cut_join.specs.Joined.{joined}
+use Rattle.cut_shares.specs.join.Joined.{joined}
 use Rattle.cut_migration.specs.declared.fault.MigrateFault.TheVariants as migration
 use Rattle.cut_commands.specs.Faults.{IsRefusalOfNew}
 use Rattle.cut_commands.specs.NewStudy.{LeavesNew}

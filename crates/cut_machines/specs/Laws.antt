@@ -4,14 +4,14 @@ use Rattle.std.specs.List.{flat_map}
 use Rattle.cut_plan.specs.Cells.{trial_count}
 use Rattle.cut_plan.specs.Plan.{IsPlan}
 use Rattle.cut_plan.specs.Values.{Values}
-use Rattle.cut_lines.specs.Lines.{table}
+use Rattle.cut_ledger.specs.lines.Lines.{table}
 use Rattle.cut_ledger.specs.declared.slip.Slip.{Slip}
 use Rattle.cut_ledger.specs.Table.{table_over}
 use Rattle.cut_ledger.specs.Slips.{AreGood}
 use Rattle.cut_ledger.specs.World.{AreTrue, pieces_of_slips, times_in}
-use Rattle.cut_share.specs.declared.share.Share.{Share}
-use Rattle.cut_share.specs.Running.{AreOfShare, AreWhole}
-use Rattle.cut_join.specs.Joined.{joined}
+use Rattle.cut_shares.specs.declared.share.share.Share.{Share}
+use Rattle.cut_shares.specs.share.Running.{AreOfShare, AreWhole}
+use Rattle.cut_shares.specs.join.Joined.{joined}
 
 -- how a plan is divided into shares: how many there are, and how many trials a block has at most
 pub record Sharing : Type 0 where

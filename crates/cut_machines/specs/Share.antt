@@ -15,11 +15,11 @@ use Rattle.cut_journal.specs.declared.fault.JournalFault.TheVariants as journal
 use Rattle.cut_journal.specs.Journal.{AppendsEach}
 use Rattle.cut_journal.specs.Opening.{IsFoundOn, IsOpenFault, IsOpening}
 use Rattle.cut_journal.specs.Reading.{reading}
-use Rattle.cut_share.specs.declared.fault.ShareFault.{ShareFault}
-use Rattle.cut_share.specs.declared.fault.ShareFault.TheVariants as share
-use Rattle.cut_share.specs.declared.share.Share.{Share}
-use Rattle.cut_share.specs.Running.{AreOfShare, AreWhole, IsNotDone}
-use Rattle.cut_share.specs.Share.{trials_of_share}
+use Rattle.cut_shares.specs.declared.share.fault.ShareFault.{ShareFault}
+use Rattle.cut_shares.specs.declared.share.fault.ShareFault.TheVariants as share
+use Rattle.cut_shares.specs.declared.share.share.Share.{Share}
+use Rattle.cut_shares.specs.share.Running.{AreOfShare, AreWhole, IsNotDone}
+use Rattle.cut_shares.specs.share.Share.{trials_of_share}
 use Rattle.cut_wires.specs.Log.{WireLog}
 use Rattle.cut_commands.specs.Faults.{fault_of_files}
 use Rattle.cut_commands.specs.Run.{CommandAnswers, EndsRead, GivesPlanFrom, HasUnread}

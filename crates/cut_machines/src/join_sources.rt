@@ -11,7 +11,7 @@ ghost use Rattle.cut_machines.specs.inside.JoinSources.{NamesFile, StaysOpen, cl
 use cut_commands::CliFault;
 use cut_disks::Disk;
 use cut_files::{Files, Mode};
-use cut_join::{JoinFault, judge};
+use cut_shares::join::{JoinFault, judge};
 use cut_journal::Journal;
 use cut_ledger::Slip;
 use cut_migration::MigrateFault;

@@ -3,7 +3,7 @@
 ghost use Rattle.std.specs.Prelude.{◌≡◌, ◌↔◌, IfErr, IfOk, OnOk, length};
 ghost use Rattle.cut_disks.specs.Log.{IsKnown, is_known, on};
 ghost use Rattle.cut_ledger.specs.Slips.{AreGood};
-ghost use Rattle.cut_join.specs.Joined.{joined};
+ghost use Rattle.cut_shares.specs.join.Joined.{joined};
 ghost use Rattle.cut_commands.specs.NewStudy.{SaysAllOf, writing_faults};
 ghost use Rattle.cut_machines.specs.JoinTarget.{LeavesDisk, StopsWriting};
 ghost use Rattle.cut_machines.specs.inside.JoinTarget.{IsNewJournal, IsPartWritten};
@@ -12,7 +12,7 @@ ghost use Rattle.cut_machines.specs.inside.JoinTarget.{StopsFilling};
 use crate::join_sources::cli_fault_of;
 use cut_commands::CliFault;
 use cut_disks::Disk;
-use cut_join::join;
+use cut_shares::join::join;
 use cut_journal::Journal;
 use cut_ledger::Slip;
 use cut_plan::Plan;

@@ -3,7 +3,7 @@
 ghost use Rattle.cut_machines.specs.Laws.{CompleteSharesHaveAllTrials, FirstSlipsAreOfShare, ResumedSlipsAreOfShare};
 ghost use Rattle.cut_machines.specs.Laws.{ResumedSlipsAreWhole, SharesAreGood, SharesAreTrue, SharesGiveThePlansTable};
 
-use cut_join::laws::{joined_slips_give_the_same_table, joined_slips_have_the_same_trials};
+use cut_shares::join::laws::{joined_slips_give_the_same_table, joined_slips_have_the_same_trials};
 use cut_ledger::laws::true_slips_give_the_table;
 
 /// Files of shares of one plan join to the plan's table, in any order, whatever the number of shares and the size of

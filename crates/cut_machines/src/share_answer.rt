@@ -3,7 +3,7 @@ ghost use Rattle.std.specs.Fmt.{decimal};
 ghost use Rattle.cut_machines.specs.Share.{share_line};
 
 use arrayvec::ArrayString;
-use cut_share::Share;
+use cut_shares::share::Share;
 use itoa::Buffer;
 
 /// A line of an answer, kept in the value itself.

@@ -12,7 +12,7 @@ use cut_files::{Files, Mode};
 use cut_journal::{Journal, JournalFault};
 use cut_outcome::Gate;
 use cut_plan::Plan;
-use cut_share::{Share, ShareFault, ShareRun};
+use cut_shares::share::{Share, ShareFault, ShareRun};
 use cut_wires::Wire;
 use std::alloc::Global;
 use std::sync::Wait;

@@ -1,5 +1,5 @@
 //! Lists of bits, read one by one.
-use bit_list::BitList;
+use cut_sets::bits::BitList;
 use std::test::Fail;
 
 #[test]

@@ -1,7 +1,7 @@
 //! Images beside the keys that a trial's draws give one by one.
 ghost use Rattle.std.specs.Prelude.{◌<◌};
 
-use cut_blocks::{Blocks, NEVER};
+use cut_arrivals::blocks::{Blocks, NEVER};
 use cut_draws::Draws;
 use rand_chacha::ChaCha8Rng;
 use rand_core::SeedableRng;

@@ -1,10 +1,10 @@
 //! Ranks beside a plain sort, and proposal times beside a search through all times.
 ghost use Rattle.std.specs.Prelude.{◌≡◌, ℕ, ◌<◌, ◌≤◌, length, slice_index, All, IfOk};
-ghost use Rattle.cut_blocks.specs.Images.{never};
-ghost use Rattle.cut_lanes.specs.Lanes.{lane};
+ghost use Rattle.cut_arrivals.specs.blocks.Images.{never};
+ghost use Rattle.cut_arrivals.specs.lanes.Lanes.{lane};
 
-use cut_blocks::NEVER;
-use cut_lanes::{ProposalTime, compute_proposal_time, ordered, select};
+use cut_arrivals::blocks::NEVER;
+use cut_arrivals::lanes::{ProposalTime, compute_proposal_time, ordered, select};
 use rand_chacha::ChaCha8Rng;
 use rand_core::SeedableRng;
 use rand_core::utils::NextWord;

@@ -2,7 +2,7 @@
 
 ghost use Rattle.std.specs.Prelude.{◌≡◌, length};
 
-use range_set::{RangeSet, Span};
+use cut_sets::ranges::{RangeSet, Span};
 use std::alloc::{AllocError, Global};
 use std::test::Fail;
 

@@ -13,7 +13,7 @@ use Rattle.cut_lists.proofs.Ranges.{ranges-join}
 use Rattle.cut_plan.specs.Values.{Values}
 use Rattle.cut_plan.specs.Cells.{cells_of}
 use Rattle.cut_plan.specs.Failing.{version_of}
-use Rattle.cut_lines.specs.Lines.{header}
+use Rattle.cut_ledger.specs.lines.Lines.{header}
 use Rattle.cut_ledger.specs.declared.slip.Slip.{Slip}
 use Rattle.cut_ledger.specs.Table.{table_over}
 use Rattle.cut_wires.specs.declared.rows.RowsFault.{RowsFault}

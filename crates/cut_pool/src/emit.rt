@@ -6,7 +6,7 @@ ghost use Rattle.cut_pool.specs.inside.Emission.{EmitsStudy, emit_result_of};
 use cut_book::Opened;
 use cut_disks::Disk;
 use cut_hall::{CallLedger, Gate, Hall, NextRowFault, Pass, StudyCell};
-use cut_lines::header;
+use cut_ledger::lines::header;
 use cut_wires::{CountingWriter, PlainRows, RowSource, RowsFault, Wire, send_rows};
 use std::alloc::Global;
 use std::sync::Wait;

@@ -1,7 +1,7 @@
 //! Candidates beside a recount of the same alerts, and key places beside ones that were written by hand.
 
 use cut_detector::Rule;
-use cut_candidates::{Cause, Candidate, Candidates, KeyPlace, KeyPlaces};
+use cut_arrivals::candidates::{Cause, Candidate, Candidates, KeyPlace, KeyPlaces};
 use cut_rings::{Edge, Rings, RingsFault};
 use std::alloc::{AllocError, Global};
 use std::test::Fail;

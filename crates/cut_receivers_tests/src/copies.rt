@@ -3,9 +3,9 @@ ghost use Rattle.std.specs.Prelude.{◌<◌, length, All};
 
 use crate::lanes::places_of;
 use crate::setting::{SEED, Scene, Setting};
-use cut_blocks::Blocks;
+use cut_arrivals::blocks::Blocks;
 use cut_detector::Rule;
-use cut_receivers::{Places, Receivers};
+use cut_arrivals::receivers::{Places, Receivers};
 use std::alloc::{AllocError, Global};
 use std::process::Abort;
 use std::test::Fail;

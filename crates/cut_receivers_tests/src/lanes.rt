@@ -3,10 +3,10 @@ ghost use Rattle.std.specs.Prelude.{◌<◌, length, All};
 
 use crate::replays::replayed;
 use crate::setting::{SEED, Scene, Setting};
-use cut_blocks::Blocks;
+use cut_arrivals::blocks::Blocks;
 use cut_detector::{Proposal, Rule};
 use cut_draws::Draws;
-use cut_receivers::{LaneVerdict, LaneVerdicts, Places, Receivers};
+use cut_arrivals::receivers::{LaneVerdict, LaneVerdicts, Places, Receivers};
 use std::alloc::{AllocError, Global};
 use std::process::Abort;
 use std::test::Fail;

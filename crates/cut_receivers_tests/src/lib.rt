@@ -1,4 +1,4 @@
-//! What no contract of `cut_candidates` and `cut_receivers` says: candidates beside a recount, receivers of drawn
+//! What no contract of `cut_arrivals` says: candidates beside a recount, receivers of drawn
 //! trials beside detectors to which their deliveries are replayed one by one, receivers whose images tie, images of so
 //! few bits that many tie, and receivers for whose times memory runs out.
 //!

@@ -3,9 +3,9 @@
 
 use crate::lanes::{Wanted, found_as_replayed};
 use crate::setting::{SEED, Setting};
-use cut_blocks::Blocks;
+use cut_arrivals::blocks::Blocks;
 use cut_detector::Rule;
-use cut_receivers::Receivers;
+use cut_arrivals::receivers::Receivers;
 use std::alloc::Global;
 use std::process::Abort;
 use std::test::Fail;

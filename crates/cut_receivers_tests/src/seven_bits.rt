@@ -1,14 +1,14 @@
 //! Images of seven bits, so that many are equal: if a lane is not in doubt, what has ended by its proposal time is what
 //! the detector proposes when the same alerts come in the order of their whole keys.
 ghost use Rattle.std.specs.Prelude.{ℕ, ◌<◌, ◌≤◌, slice_index, All, IfOk};
-ghost use Rattle.cut_blocks.specs.Images.{never};
-ghost use Rattle.cut_lanes.specs.Lanes.{lane};
+ghost use Rattle.cut_arrivals.specs.blocks.Images.{never};
+ghost use Rattle.cut_arrivals.specs.lanes.Lanes.{lane};
 
 use crate::drawn::drawn_rings;
 use crate::edges::all_within;
-use cut_blocks::NEVER;
+use cut_arrivals::blocks::NEVER;
 use cut_detector::{Proposal, Rule, replay};
-use cut_lanes::{ProposalTime, compute_proposal_time, select};
+use cut_arrivals::lanes::{ProposalTime, compute_proposal_time, select};
 use cut_rings::{Edge, Rings};
 use rand_chacha::ChaCha8Rng;
 use rand_core::SeedableRng;

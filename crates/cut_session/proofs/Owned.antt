@@ -8,7 +8,7 @@ use Rattle.cut_plan.specs.Plan.{IsPlan}
 use Rattle.cut_plan.specs.Values.{Values}
 use Rattle.cut_plan.specs.declared.refusal.Refusal.{Refusal}
 use Rattle.cut_faults.specs.declared.code.FaultCode.TheVariants as code
-use Rattle.cut_lines.specs.Lines.{line_with}
+use Rattle.cut_ledger.specs.lines.Lines.{line_with}
 use Rattle.cut_outcome.specs.Sum.{sum_of, trials_of_cell}
 use Rattle.cut_ledger.specs.declared.slip.Slip.{Slip}
 use Rattle.cut_ledger.specs.Laws.{TrueSlipsSumAll}

@@ -13,7 +13,7 @@ use Rattle.cut_plan.specs.Values.{Values}
 use Rattle.cut_plan.specs.Failing.{version_of}
 use Rattle.cut_board.specs.declared.view.View.{View}
 use Rattle.cut_board.specs.Views.{seen_in}
-use Rattle.cut_lines.specs.Lines.{header}
+use Rattle.cut_ledger.specs.lines.Lines.{header}
 use Rattle.cut_ledger.specs.declared.slip.Slip.{Slip}
 use Rattle.cut_book.specs.declared.submit_fault.SubmitFault.{SubmitFault}
 use Rattle.cut_slots.specs.declared.next_row_fault.NextRowFault.{NextRowFault}

@@ -1,5 +1,5 @@
 ghost use Rattle.std.specs.Prelude.{◌≡◌, ◌<◌, ◌≤◌, length, IfOk};
-ghost use Rattle.cut_lines.specs.declared.line.TheConstants.{LONGEST_LINE};
+ghost use Rattle.cut_ledger.specs.declared.lines.line.TheConstants.{LONGEST_LINE};
 ghost use Rattle.cut_plan.specs.Cells.{cells_of};
 ghost use Rattle.cut_slots.specs.Lines.{full_line};
 ghost use Rattle.cut_slots.specs.Trust.{MayBegin};
@@ -12,7 +12,7 @@ use crate::fault_reply::send_fault;
 use cut_book::Opened;
 use cut_disks::Disk;
 use cut_hall::{CallLedger, Hall, NextRowFault, Pass};
-use cut_lines::header;
+use cut_ledger::lines::header;
 use cut_messages::{Kind, FramedRows, send_message};
 use cut_plan::plans_are_accepted;
 use cut_wires::{CountingWriter, RowSource, RowsFault, Sent, Wire, send_rows};

@@ -1,6 +1,6 @@
 -- A cell that is done has its full line.
 use Rattle.std.proofs.Common.{◌≡◌, ℕ, true, ap}
-use Rattle.cut_lines.specs.Lines.{line_with}
+use Rattle.cut_ledger.specs.lines.Lines.{line_with}
 use Rattle.cut_ledger.specs.Contents.{Contents, cell_done, cell_sum}
 use Rattle.cut_ledger.proofs.FullSums.{done_sum}
 use Rattle.cut_slots.specs.Lines.{full_line}

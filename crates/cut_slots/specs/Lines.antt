@@ -1,7 +1,7 @@
 -- The line of a cell once every trial of it is held, over the slips that a study began with.
 use Rattle.std.specs.Prelude.{ℕ, List}
 use Rattle.cut_plan.specs.Values.{Values}
-use Rattle.cut_lines.specs.Lines.{line_with}
+use Rattle.cut_ledger.specs.lines.Lines.{line_with}
 use Rattle.cut_ledger.specs.declared.slip.Slip.{Slip}
 use Rattle.cut_ledger.specs.Table.{full_sum}
 

@@ -15,7 +15,7 @@ use Rattle.cut_lists.proofs.Prefixes.{take_while-prefix}
 use Rattle.cut_lists.proofs.Intervals.{take_range, drop_range}
 use Rattle.cut_plan.specs.Cells.{cells_of}
 use Rattle.cut_plan.specs.Failing.{version_of}
-use Rattle.cut_lines.specs.Lines.{header}
+use Rattle.cut_ledger.specs.lines.Lines.{header}
 use Rattle.cut_ledger.specs.Contents.{Contents, cell_done}
 use Rattle.cut_ledger.specs.Machine.{available}
 use Rattle.cut_wires.specs.declared.rows.RowsFault.{RowsFault}

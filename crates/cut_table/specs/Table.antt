@@ -1,7 +1,7 @@
 -- What is written of a table, from a ledger.
 use Rattle.std.specs.Prelude.{◌≡◌, ◌<◌, ℕ, true, false, List, length, take, Result, Ok, Err, ⊤}
 use Rattle.cut_plan.specs.Cells.{cells_of}
-use Rattle.cut_lines.specs.Lines.{line_with}
+use Rattle.cut_ledger.specs.lines.Lines.{line_with}
 use Rattle.cut_ledger.specs.Contents.{Contents, cell_done, cell_sum}
 use Rattle.cut_ledger.specs.Machine.{available}
 use Rattle.cut_wires.specs.Log.{WireLog, wrote, write_failed}

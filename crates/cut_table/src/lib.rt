@@ -4,7 +4,7 @@
 mod fault;
 mod table;
 
-pub use cut_lines::header;
+pub use cut_ledger::lines::header;
 pub use cut_wires::{FaultyWire, MemoryWire, Sent, Wire, send_all};
 pub use fault::{RowFault, TableFault};
 pub use table::{emit_table, row};

@@ -1,5 +1,5 @@
 ghost use Rattle.std.specs.Prelude.{◌≡◌, ◌<◌, ◌≤◌, true, length, IfOk, IfErr, OnOk};
-ghost use Rattle.cut_lines.specs.declared.line.TheConstants.{LONGEST_LINE};
+ghost use Rattle.cut_ledger.specs.declared.lines.line.TheConstants.{LONGEST_LINE};
 ghost use Rattle.cut_plan.specs.Cells.{cells_of};
 ghost use Rattle.cut_ledger.specs.Contents.{cell_done};
 ghost use Rattle.cut_table.specs.Table.{row_of, Emits, IsRowFault};
@@ -7,7 +7,7 @@ ghost use Rattle.cut_table.specs.inside.Table.{table_result_of};
 
 use crate::{RowFault, TableFault};
 use cut_ledger::Ledger;
-use cut_lines::{cell_line, header};
+use cut_ledger::lines::{cell_line, header};
 use cut_wires::{CountingWriter, PlainRows, RowSource, RowsFault, Wire, send_rows};
 use std::alloc::Global;
 

@@ -12,15 +12,15 @@ use Rattle.cut_lists.proofs.Maps.{count_by-map}
 use Rattle.cut_lists.proofs.Ranges.{All-range_with_len, few_filtered, none_passing, passing}
 use Rattle.cut_lists.proofs.Ranges.{list_any_passing}
 unfoldable use Rattle.cut_detector.specs.Counts.{is_full, is_reported, is_some_stable, is_stable}
-use Rattle.cut_receivers.specs.declared.lane_verdict.LaneVerdict.{LaneVerdict}
-use Rattle.cut_receivers.specs.declared.lane_verdict.LaneVerdict.TheVariants.{Doubtful, Other, Silent, Wanted}
-use Rattle.cut_receivers.specs.LaneVerdicts.{flagged, IsVerdictOn}
+use Rattle.cut_arrivals.specs.declared.receivers.lane_verdict.LaneVerdict.{LaneVerdict}
+use Rattle.cut_arrivals.specs.declared.receivers.lane_verdict.LaneVerdict.TheVariants.{Doubtful, Other, Silent, Wanted}
+use Rattle.cut_arrivals.specs.receivers.LaneVerdicts.{flagged, IsVerdictOn}
 use Rattle.cut_trial.specs.declared.alerts.Alerts.{Alerts}
 use Rattle.cut_trial.specs.inside.Judging.{proposed_by, proposals_to}
 use Rattle.cut_outcome.proofs.Words.{Assignment, EdgeSet, IsTrue, Layout, Rule, Source}
 use Rattle.cut_outcome.proofs.Words.{count_by, is_target, list_any, range_with_len}
 use Rattle.cut_outcome.proofs.Words.{receivers_of}
-use Rattle.cut_candidates.proofs.CandidateLemmas.{stable_reported}
+use Rattle.cut_arrivals.proofs.CandidateLemmas.{stable_reported}
 
 -- ---- flags
 

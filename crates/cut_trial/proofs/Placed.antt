@@ -3,13 +3,13 @@ use Rattle.std.proofs.Common.{◌≡◌, ℕ, ◌<◌, Bool, false, List, Option
 use Rattle.std.specs.Prelude.{IfSome, IfNone, IsTrue, slice_index}
 use Rattle.cut_fields.specs.declared.version.Version.{Version}
 use Rattle.cut_fields.specs.declared.version.Version.TheVariants.{One, Two}
-use Rattle.cut_arrivals.specs.Reception.{Reception, proposal_at}
-use Rattle.cut_receivers.specs.declared.lane_verdict.LaneVerdict.{LaneVerdict}
-use Rattle.cut_receivers.specs.declared.lane_verdict.LaneVerdict.TheVariants.{Doubtful, Other, Silent, Wanted}
-use Rattle.cut_receivers.specs.declared.lane_verdict.LaneVerdicts.{LaneVerdicts}
-use Rattle.cut_receivers.specs.declared.places.Places.{Places}
+use Rattle.cut_arrivals.specs.proposals.Reception.{Reception, proposal_at}
+use Rattle.cut_arrivals.specs.declared.receivers.lane_verdict.LaneVerdict.{LaneVerdict}
+use Rattle.cut_arrivals.specs.declared.receivers.lane_verdict.LaneVerdict.TheVariants.{Doubtful, Other, Silent, Wanted}
+use Rattle.cut_arrivals.specs.declared.receivers.lane_verdict.LaneVerdicts.{LaneVerdicts}
+use Rattle.cut_arrivals.specs.declared.receivers.places.Places.{Places}
 use Rattle.std.proofs.lemmas.Bool.{both_ways}
-use Rattle.cut_receivers.specs.LaneVerdicts.{lane_verdict_in, has_bit, is_proposal, members_at, IsVerdictOn}
+use Rattle.cut_arrivals.specs.receivers.LaneVerdicts.{lane_verdict_in, has_bit, is_proposal, members_at, IsVerdictOn}
 use Rattle.cut_outcome.proofs.Words.{Proposal, IsPlaced}
 use Rattle.cut_outcome.proofs.Outcomes.{none_proposed, placed_at}
 

@@ -1,4 +1,4 @@
-//! What no contract of `cut_plan`, `cut_outcome`, `cut_trial`, `cut_lines`, `cut_explain` and `cut_findings` says: plans,
+//! What no contract of `cut_plan`, `cut_outcome`, `cut_trial`, `cut_ledger`'s lines and `cut_explain` says: plans,
 //! trials and lines beside values that were computed elsewhere, printed faults, the help after the first line of an
 //! explanation, and how long a study is estimated to take.
 //!

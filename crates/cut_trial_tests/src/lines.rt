@@ -1,7 +1,7 @@
 //! Lines that were worked out by hand.
 
 use crate::mixed::{MIXED, NONE_FAIL, THREE_RINGS};
-use cut_lines::{cell_line, header};
+use cut_ledger::lines::{cell_line, header};
 use cut_outcome::Totals;
 use cut_plan::{Plan, PlanFault};
 use std::alloc::{AllocError, Global};

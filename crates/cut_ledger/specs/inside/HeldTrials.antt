@@ -10,8 +10,8 @@ use Rattle.cut_plan.specs.Plan.{IsPlan}
 use Rattle.cut_outcome.specs.declared.piece.Piece.{Piece}
 use Rattle.cut_outcome.specs.declared.totals.Totals.{Totals}
 use Rattle.cut_outcome.specs.Sum.{each_number, is_piece, plus, trials_in, trials_of_cell, IsAtMost}
-use Rattle.range_set.specs.declared.span.Span.{Span}
-use Rattle.range_set.specs.Held.{Held, has, with_span, KeepsOtherRoom}
+use Rattle.cut_sets.specs.declared.ranges.span.Span.{Span}
+use Rattle.cut_sets.specs.ranges.Held.{Held, has, with_span, KeepsOtherRoom}
 use Rattle.cut_ledger.specs.declared.slip.Slip.{Slip}
 use Rattle.cut_ledger.specs.Account.{Account}
 use Rattle.cut_ledger.specs.Contents.{Contents, is_in_base, sum_where}

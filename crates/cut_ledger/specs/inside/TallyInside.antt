@@ -2,7 +2,7 @@
 use Rattle.std.specs.Prelude.{◌≡◌, ◌≤◌, length, count_by}
 use Rattle.cut_plan.specs.Cells.{trial_count}
 use Rattle.cut_plan.specs.Plan.{IsPlan}
-use Rattle.range_set.specs.Held.{has}
+use Rattle.cut_sets.specs.ranges.Held.{has}
 use Rattle.cut_ledger.specs.declared.tally.SlipTally.TheInside.{Inside}
 use Rattle.cut_ledger.specs.Contents.{all_trials}
 use Rattle.cut_ledger.specs.Tally.{Tally}

@@ -6,8 +6,8 @@ use Rattle.cut_ledger.specs.declared.slip.Slip.{Slip}
 use Rattle.cut_ledger.specs.Slips.{IsFirstBad}
 use Rattle.cut_journal.specs.declared.fault.JournalFault.{JournalFault}
 use Rattle.cut_journal.specs.declared.fault.JournalFault.TheVariants as journal
-use Rattle.cut_join.specs.declared.fault.JoinFault.{JoinFault}
-use Rattle.cut_join.specs.declared.fault.JoinFault.TheVariants as join
+use Rattle.cut_shares.specs.declared.join.fault.JoinFault.{JoinFault}
+use Rattle.cut_shares.specs.declared.join.fault.JoinFault.TheVariants as join
 use Rattle.cut_migration.specs.declared.fault.MigrateFault.TheVariants as migration
 use Rattle.cut_commands.specs.declared.fault.CliFault.{CliFault}
 use Rattle.cut_commands.specs.declared.fault.CliFault.TheVariants.{Memory, Journal, BadSlip, Migrate}

@@ -4,7 +4,7 @@ use Rattle.cut_plan.specs.Values.{Values}
 use Rattle.cut_disks.specs.State.{DiskState, Throughout}
 use Rattle.cut_ledger.specs.declared.slip.Slip.{Slip}
 use Rattle.cut_journal.specs.Journal.{JournalValue}
-use Rattle.cut_join.specs.Joined.{joined}
+use Rattle.cut_shares.specs.join.Joined.{joined}
 use Rattle.cut_migration.specs.declared.fault.MigrateFault.TheVariants as migration
 use Rattle.cut_commands.specs.declared.fault.CliFault.{CliFault}
 use Rattle.cut_commands.specs.declared.fault.CliFault.TheVariants.{Memory, Migrate}

@@ -2,11 +2,11 @@
 use Rattle.std.specs.Prelude.{◌≡◌, ◌+◌, ◌<◌, ◌≤◌, ℕ, List, length, take, Result, Ok, Err, ⊤}
 use Rattle.std.specs.Borrow.{GName}
 use Rattle.std.proofs.Common.{refl, arith}
-use Rattle.cut_lines.specs.declared.line.TheConstants.{LONGEST_LINE}
+use Rattle.cut_ledger.specs.declared.lines.line.TheConstants.{LONGEST_LINE}
 use Rattle.cut_plan.specs.Cells.{cells_of}
 use Rattle.cut_plan.specs.Values.{Values}
 use Rattle.cut_plan.specs.Failing.{version_of}
-use Rattle.cut_lines.specs.Lines.{header}
+use Rattle.cut_ledger.specs.lines.Lines.{header}
 use Rattle.cut_ledger.specs.declared.slip.Slip.{Slip}
 use Rattle.cut_wires.specs.declared.rows.RowsFault.{RowsFault}
 use Rattle.cut_wires.specs.declared.rows.RowsFault.TheVariants.{Write, Row}

@@ -1,11 +1,11 @@
 -- The lines of an opened study, as a session sends them. Only the crate's private clauses cite it.
 use Rattle.std.specs.Prelude.{◌≡◌, List, length, refl, Result, Ok, Err, ⊤}
 use Rattle.std.specs.Borrow.{GName}
-use Rattle.cut_lines.specs.declared.line.TheConstants.{LONGEST_LINE}
+use Rattle.cut_ledger.specs.declared.lines.line.TheConstants.{LONGEST_LINE}
 use Rattle.cut_plan.specs.Cells.{cells_of}
 use Rattle.cut_plan.specs.Values.{Values}
 use Rattle.cut_plan.specs.Failing.{version_of}
-use Rattle.cut_lines.specs.Lines.{header}
+use Rattle.cut_ledger.specs.lines.Lines.{header}
 use Rattle.cut_ledger.specs.declared.slip.Slip.{Slip}
 use Rattle.cut_wires.specs.declared.rows.RowsFault.{RowsFault}
 use Rattle.cut_wires.specs.declared.send.Sent.{Sent}

@@ -1,10 +1,10 @@
 -- What only the crate's own clauses and proofs cite, beside specs/Table.antt.
 use Rattle.std.specs.Prelude.{◌≡◌, ◌<◌, ℕ, true, length, Result, Ok, Err, ⊤}
 use Rattle.std.proofs.Common.{refl, arith}
-use Rattle.cut_lines.specs.declared.line.TheConstants.{LONGEST_LINE}
+use Rattle.cut_ledger.specs.declared.lines.line.TheConstants.{LONGEST_LINE}
 use Rattle.cut_plan.specs.Cells.{cells_of}
 use Rattle.cut_plan.specs.Failing.{version_of}
-use Rattle.cut_lines.specs.Lines.{header}
+use Rattle.cut_ledger.specs.lines.Lines.{header}
 use Rattle.cut_ledger.specs.Contents.{Contents, cell_done}
 use Rattle.cut_wires.specs.declared.rows.RowsFault.{RowsFault}
 use Rattle.cut_wires.specs.declared.rows.RowsFault.TheVariants.{Row, Write as Unsent}

@@ -7,11 +7,11 @@ use Rattle.cut_draws.specs.Source.{Source}
 use Rattle.cut_detector.specs.Rule.{rule_of}
 use Rattle.cut_detector.specs.declared.proposal.Proposal.{Proposal}
 use Rattle.cut_fields.specs.declared.version.Version.{Version}
-use Rattle.cut_arrivals.specs.Reception.{Reception, proposal_at}
-use Rattle.cut_receivers.specs.declared.lane_verdict.LaneVerdict.{LaneVerdict}
-use Rattle.cut_receivers.specs.declared.receivers.Receivers.{Receivers}
-use Rattle.cut_receivers.specs.LaneVerdicts.{members_at, has_bit, flagged, IsVerdictOn}
-use Rattle.cut_receivers.specs.Received.{HasReceived}
+use Rattle.cut_arrivals.specs.proposals.Reception.{Reception, proposal_at}
+use Rattle.cut_arrivals.specs.declared.receivers.lane_verdict.LaneVerdict.{LaneVerdict}
+use Rattle.cut_arrivals.specs.declared.receivers.receivers.Receivers.{Receivers}
+use Rattle.cut_arrivals.specs.receivers.LaneVerdicts.{members_at, has_bit, flagged, IsVerdictOn}
+use Rattle.cut_arrivals.specs.receivers.Received.{HasReceived}
 use Rattle.cut_trial.specs.inside.Counted.{IsJudging}
 use Rattle.cut_trial.specs.declared.receiver_judge.PlacedVerdict.{PlacedVerdict}
 use Rattle.cut_trial.specs.declared.input.TrialInput.{TrialInput}

@@ -6,7 +6,7 @@ use Rattle.clap.proofs.OnLiterals.{clap_on_literals}
 use Rattle.clap.specs.declared.error.kind.ErrorKind.{ErrorKind}
 use Rattle.clap.specs.declared.error.kind.ErrorKind.TheVariants.{ValueValidation, OutOfMemory}
 use Rattle.cut_command_line.specs.declared.line.Job.{Job}
-use Rattle.cut_options.specs.Options.{program_app}
+use Rattle.cut_command_line.specs.options.Options.{program_app}
 use Rattle.cut_command_line.specs.Line.{status_of_kind, IsAsked, NamesJob}
 use Rattle.cut_command_line.specs.inside.Line.{IsJobOf}
 use Rattle.cut_command_line.proofs.line.job_by.Goals as goal

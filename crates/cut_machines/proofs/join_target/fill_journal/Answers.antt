@@ -2,7 +2,7 @@ use Rattle.std.proofs.Common.{◌∙◌, List, sym, subst}
 use Rattle.cut_disks.specs.Log.{on}
 use Rattle.cut_plan.specs.Values.{Values}
 use Rattle.cut_ledger.specs.declared.slip.Slip.{Slip}
-use Rattle.cut_join.specs.Joined.{joined}
+use Rattle.cut_shares.specs.join.Joined.{joined}
 use Rattle.cut_commands.specs.NewStudy.{SaysAllOf}
 use Rattle.cut_machines.specs.inside.JoinTarget.{IsPartWritten}
 use Rattle.cut_machines.proofs.JoinTargetLemmas.{all_written, filling_stops, part_written, some_taken}

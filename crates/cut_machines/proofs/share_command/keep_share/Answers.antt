@@ -1,7 +1,7 @@
 use Rattle.std.proofs.Common.{List, Err, sym, subst}
 use Rattle.cut_plan.specs.Values.{Values}
 use Rattle.cut_ledger.specs.declared.slip.Slip.{Slip}
-use Rattle.cut_share.specs.Running.{EndsShare}
+use Rattle.cut_shares.specs.share.Running.{EndsShare}
 use Rattle.cut_machines.specs.Share.{EndsKeeping, fault_of_share}
 use Rattle.cut_machines.proofs.ShareLemmas.{HasOpened, IsRun, keeps_fault}
 use Rattle.cut_machines.proofs.share_command.keep_share.Goals as goal

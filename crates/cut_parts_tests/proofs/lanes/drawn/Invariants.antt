@@ -1,6 +1,6 @@
 use Rattle.std.proofs.Common.{◌≡◌, ℕ, ◌<◌, ◌≤◌, length, All}
-use Rattle.cut_blocks.specs.Images.{never}
-use Rattle.cut_lanes.specs.Lanes.{lane}
+use Rattle.cut_arrivals.specs.blocks.Images.{never}
+use Rattle.cut_arrivals.specs.lanes.Lanes.{lane}
 use Rattle.cut_parts_tests.proofs.lanes.drawn.Given as goal
 
 -- a time of each receiver for each turn

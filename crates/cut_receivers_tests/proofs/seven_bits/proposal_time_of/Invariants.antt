@@ -1,6 +1,6 @@
 use Rattle.std.proofs.Common.{ℕ, ◌<◌, ◌≤◌, All}
-use Rattle.cut_blocks.specs.Images.{never}
-use Rattle.cut_lanes.specs.Lanes.{lane}
+use Rattle.cut_arrivals.specs.blocks.Images.{never}
+use Rattle.cut_arrivals.specs.lanes.Lanes.{lane}
 use Rattle.cut_receivers_tests.proofs.seven_bits.proposal_time_of.Given as goal
 
 -- every low is a time

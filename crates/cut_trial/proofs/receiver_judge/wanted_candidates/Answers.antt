@@ -1,7 +1,7 @@
 use Rattle.std.proofs.Common.{ℕ, ◌<◌, List, length, slice_index_or, ap, subst, ◌∙◌, arith}
 use Rattle.std.proofs.lemmas.List.{length-map, get_or-map}
 use Rattle.cut_lists.proofs.Maps.{map-map}
-use Rattle.cut_candidates.specs.declared.candidate.Candidate.{Candidate}
+use Rattle.cut_arrivals.specs.declared.candidates.candidate.Candidate.{Candidate}
 use Rattle.cut_trial.proofs.Judged.{taken_all}
 use Rattle.cut_trial.proofs.receiver_judge.wanted_candidates.Goals as goal
 

@@ -2,8 +2,8 @@
 use Rattle.std.proofs.Common.{◌≡◌, ◌∙◌, ℕ, ◌*◌, ◌∷◌, [], ◌++◌, not, List, map, refl, sym, ap, subst, arith}
 use Rattle.std.proofs.lemmas.List.{map-append}
 use Rattle.std.proofs.lemmas.Result.{IfOk-weaker}
-use Rattle.range_set.specs.declared.span.Span.{Span}
-use Rattle.range_set.specs.Spans as all
+use Rattle.cut_sets.specs.declared.ranges.span.Span.{Span}
+use Rattle.cut_sets.specs.ranges.Spans as all
 use Rattle.cut_ledger.proofs.Words.{All, Contents, IsTrue, Piece, flat_map, gaps_of, has, is_piece, piece_at}
 use Rattle.cut_ledger.proofs.CellLemmas.{one_cell_more}
 use Rattle.cut_ledger.proofs.GapPieces.{gaps_are_pieces}

@@ -1,5 +1,5 @@
 use Rattle.std.proofs.Common.{◌≡◌, ◌*◌, not}
-use Rattle.range_set.specs.Spans.{spans}
+use Rattle.cut_sets.specs.ranges.Spans.{spans}
 use Rattle.cut_ledger.proofs.Words.{flat_map, has, range_with_len}
 use Rattle.cut_ledger.proofs.ledger.Ledger.gaps.Given as goal
 

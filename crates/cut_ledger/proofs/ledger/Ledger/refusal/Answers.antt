@@ -1,6 +1,6 @@
 -- The tests of the code are those of the definition, in its order.
 use Rattle.std.proofs.Common.{◌≡◌, ℕ, Bool, true, false, sym, arith}
-use Rattle.range_set.specs.Held.{has}
+use Rattle.cut_sets.specs.ranges.Held.{has}
 use Rattle.cut_ledger.proofs.Words.{Piece, list_any, trials_in}
 use Rattle.cut_ledger.proofs.RefusalLemmas.{same_plan}
 use Rattle.cut_ledger.proofs.ledger.Ledger.refusal.Goals as goal

@@ -1,7 +1,7 @@
 -- Only the room of one cell changes.
 use Rattle.std.proofs.Common.{◌≡◌, ◌∙◌, ℕ, true, Result, Ok, Err, List, length, set, ap}
 use Rattle.std.proofs.lemmas.List.{length-set}
-use Rattle.range_set.specs.Held.{Held}
+use Rattle.cut_sets.specs.ranges.Held.{Held}
 use Rattle.cut_ledger.proofs.Words.{AreKept, OnErr, OnOk, Slip, Totals, Values}
 use Rattle.cut_ledger.proofs.CellLemmas.{kept_alike}
 use Rattle.cut_ledger.proofs.ledger.Ledger.reserve.Goals as goal

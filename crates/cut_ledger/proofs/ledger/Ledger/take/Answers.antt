@@ -1,6 +1,6 @@
 -- The piece is put in, with the sums of its trials.
 use Rattle.std.proofs.Common.{◌≡◌, ◌*◌, ◌/◌, false, Result, Ok, Err, List, sym, subst}
-use Rattle.range_set.specs.Held.{Held, has}
+use Rattle.cut_sets.specs.ranges.Held.{Held, has}
 use Rattle.cut_ledger.specs.declared.held_trials.HeldTrials.{HeldTrials}
 use Rattle.cut_ledger.proofs.Words.{AreKept, IsAdded, IsAtMost, IsTrue, OnErr, OnOk, Piece, Slip, Totals, Values}
 use Rattle.cut_ledger.proofs.Words.{is_piece, list_any, sum_of, trials_in}

@@ -1,7 +1,7 @@
 -- A good slip is put in and counted; the first that is not good is refused by the number after that.
 use Rattle.std.proofs.Common.{◌≡◌, ◌∙◌, ◌+◌, ◌++◌, ◌∷◌, [], ℕ, Bool, true, false, Option, Some, None, is_some}
 use Rattle.std.proofs.Common.{refl, sym, subst, arith}
-use Rattle.range_set.specs.Held as held
+use Rattle.cut_sets.specs.ranges.Held as held
 use Rattle.cut_ledger.specs.Tally.{Tally, HasAdded}
 use Rattle.cut_ledger.specs.inside.HeldTrials.{HoldsExactly}
 use Rattle.cut_ledger.specs.inside.TallyInside.{tally_of}

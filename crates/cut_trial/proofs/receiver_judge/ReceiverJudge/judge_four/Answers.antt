@@ -2,18 +2,18 @@ use Rattle.std.proofs.Common.{rules, ◌≡◌, ℕ, ◌+◌, ◌-◌, ◌<◌, 
 use Rattle.std.specs.Prelude.{slice_index, IsTrue}
 use Rattle.std.proofs.lemmas.Option.{IfSome_then}
 use Rattle.std.proofs.lemmas.List.{length-map}
-use Rattle.cut_arrivals.specs.Reception.{highs_at}
-use Rattle.cut_blocks.specs.Images.{never}
-use Rattle.cut_candidates.specs.Candidates.{subjects_of}
-use Rattle.cut_receivers.specs.declared.receivers.Receivers.{Receivers}
-use Rattle.cut_receivers.specs.LaneVerdicts.{flagged, has_bit, members_at, IsVerdictOn}
-use Rattle.cut_receivers.specs.Received.{reception_of}
+use Rattle.cut_arrivals.specs.proposals.Reception.{highs_at}
+use Rattle.cut_arrivals.specs.blocks.Images.{never}
+use Rattle.cut_arrivals.specs.candidates.Candidates.{subjects_of}
+use Rattle.cut_arrivals.specs.declared.receivers.receivers.Receivers.{Receivers}
+use Rattle.cut_arrivals.specs.receivers.LaneVerdicts.{flagged, has_bit, members_at, IsVerdictOn}
+use Rattle.cut_arrivals.specs.receivers.Received.{reception_of}
 use Rattle.cut_outcome.proofs.Words.{is_target}
 use Rattle.cut_trial.proofs.Placed.{found_placed}
 use Rattle.cut_trial.specs.declared.receiver_judge.PlacedVerdict.{PlacedVerdict}
 use Rattle.cut_trial.specs.inside.Judging.{IsPlacedVerdict, IsPlacedVerdictIn}
 use Rattle.cut_plan.specs.Failing.{version_of}
-use Rattle.cut_arrivals.specs.Reception.{Reception}
+use Rattle.cut_arrivals.specs.proposals.Reception.{Reception}
 use Rattle.cut_trial.proofs.Judged.{receiver_within, same_judged}
 use Rattle.cut_trial.proofs.receiver_judge.ReceiverJudge.judge_four.Goals as goal
 

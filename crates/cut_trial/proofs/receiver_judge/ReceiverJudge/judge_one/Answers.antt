@@ -1,8 +1,8 @@
 use Rattle.std.proofs.Common.{◌≡◌, ℕ, List, Option, Some, None, option_map, get_or, length, ap, sym, subst, ◌∙◌}
-use Rattle.cut_arrivals.specs.Reception.{proposal_at}
-use Rattle.cut_candidates.specs.Candidates.{subjects_of}
-use Rattle.cut_receivers.specs.LaneVerdicts.{flagged, members_at}
-use Rattle.cut_receivers.specs.Received.{reception_of}
+use Rattle.cut_arrivals.specs.proposals.Reception.{proposal_at}
+use Rattle.cut_arrivals.specs.candidates.Candidates.{subjects_of}
+use Rattle.cut_arrivals.specs.receivers.LaneVerdicts.{flagged, members_at}
+use Rattle.cut_arrivals.specs.receivers.Received.{reception_of}
 use Rattle.cut_plan.specs.Failing.{version_of}
 use Rattle.cut_trial.specs.inside.Judging.{proposed_by, proposals_to}
 use Rattle.cut_trial.proofs.Placed.{placed_for}

@@ -3,7 +3,7 @@ use Rattle.std.proofs.Common.{arith}
 use Rattle.std.proofs.lemmas.Bool.{eqb-true}
 use Rattle.cut_detector.specs.Rule.{rule_in}
 use Rattle.cut_detector.specs.Counts.{is_reported, is_some_stable}
-use Rattle.cut_candidates.specs.Candidates.{subjects_of}
+use Rattle.cut_arrivals.specs.candidates.Candidates.{subjects_of}
 use Rattle.cut_outcome.proofs.Words.{Rule, is_target, range_with_len, rule_of, set_of, targets_of}
 use Rattle.cut_trial.proofs.Judged.{complete_from, none_stable, some_candidate, subjects_within}
 use Rattle.cut_trial.proofs.receiver_judge.ReceiverJudge.judge_receivers.Goals as goal

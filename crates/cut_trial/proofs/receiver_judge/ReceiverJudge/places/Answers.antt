@@ -1,6 +1,6 @@
 use Rattle.std.proofs.Common.{◌∙◌, sym, arith}
 use Rattle.cut_lists.proofs.Ranges.{none_passing}
-use Rattle.cut_receivers.specs.LaneVerdicts.{lane_verdict_in, is_proposal}
+use Rattle.cut_arrivals.specs.receivers.LaneVerdicts.{lane_verdict_in, is_proposal}
 use Rattle.cut_trial.proofs.receiver_judge.ReceiverJudge.places.Goals as goal
 
 pub returns-in_default-clause-unasked : goal.returns-in_default-clause-unasked

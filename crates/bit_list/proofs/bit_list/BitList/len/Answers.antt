@@ -1,6 +1,0 @@
-use Rattle.std.proofs.Common.{◌∙◌, length, sym, ap}
-use Rattle.bit_list.proofs.Places.{long}
-use Rattle.bit_list.proofs.bit_list.BitList.len.Goals as goal
-
-pub returns : goal.returns
-returns c = sym (long c.self.inside.words.items c.self.inside.len) ∙ ap length c.self.view_is

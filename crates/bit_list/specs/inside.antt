@@ -1,2 +1,0 @@
--- How bit_list keeps its values, and what its private functions promise: no contract of a public function cites it.
-pub mod Bits

@@ -1,0 +1,9 @@
+use Rattle.std.proofs.Common.{ℕ, ◌<◌, slice_index}
+use Rattle.cut_arrivals.proofs.Closings.{IsBegunTo}
+use Rattle.cut_arrivals.specs.lanes.Lanes.{lane}
+use Rattle.cut_arrivals.proofs.lanes.proposal_time.first_time.Given as goal
+
+-- of the processes so far
+abbrev pub invariant-loop-place : goal.invariant-loop-place
+invariant-loop-place l = (i : ℕ) → i < 4
+    → IsBegunTo (slice_index l.fn.first i) l.place (lane i l.reported_at) (lane i l.stable_at) (slice_index l.time i)

@@ -1,5 +1,0 @@
-use Rattle.cut_arrivals.proofs.Heard.{closes_as_proposed}
-use Rattle.cut_arrivals.proofs.laws.images_give_the_members.Goals as goal
-
-pub returns : goal.returns
-returns c = closes_as_proposed c.images_are_below_never.ensures

@@ -1,0 +1,5 @@
+-- How `candidates` keeps its values, and what its private functions promise: no contract of a public function cites
+-- it.
+pub mod Reported
+pub mod Runs
+pub mod KeyPlaces

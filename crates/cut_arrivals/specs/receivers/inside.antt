@@ -1,0 +1,4 @@
+-- How `receivers` keeps its values, and what its private functions promise: no contract of a public function cites it.
+pub mod LaneVerdicts
+pub mod Places
+pub mod Times

@@ -1,4 +1,0 @@
-pub mod Lanes
-pub mod Eights
-pub mod Words
-pub mod Copies

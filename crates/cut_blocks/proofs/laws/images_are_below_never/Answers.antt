@@ -1,7 +1,0 @@
-use Rattle.std.proofs.Common.{arith}
-use Rattle.cut_blocks.proofs.Words.{word_below}
-use Rattle.cut_blocks.proofs.laws.images_are_below_never.Goals as goal
-
-pub returns : goal.returns
-returns c d place =
-    grind (arith, word_below)

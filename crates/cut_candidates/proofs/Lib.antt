@@ -1,7 +1,0 @@
-pub mod ListLemmas
-pub mod KeyPlaceLemmas
-pub mod RunLemmas
-pub mod HeardLemmas
-pub mod CauseLemmas
-pub mod GainLemmas
-pub mod CandidateLemmas

@@ -1,5 +1,0 @@
--- How cut_candidates keeps its values, and what its private functions promise: no contract of a public function cites
--- it.
-pub mod Reported
-pub mod Runs
-pub mod KeyPlaces

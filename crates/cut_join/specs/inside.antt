@@ -1,3 +1,0 @@
--- How cut_join keeps its values, and what its private functions promise: no contract of a public function cites it.
-pub mod Joining
-pub mod Merging

@@ -1,3 +1,0 @@
-pub mod Both
-pub mod Choices
-pub mod Insertions

@@ -1,9 +1,0 @@
-use Rattle.std.proofs.Common.{ℕ, ◌<◌, slice_index}
-use Rattle.cut_ranks.proofs.Closings.{IsBegunTo}
-use Rattle.cut_lanes.specs.Lanes.{lane}
-use Rattle.cut_lanes.proofs.proposal_time.first_time.Given as goal
-
--- of the processes so far
-abbrev pub invariant-loop-place : goal.invariant-loop-place
-invariant-loop-place l = (i : ℕ) → i < 4
-    → IsBegunTo (slice_index l.fn.first i) l.place (lane i l.reported_at) (lane i l.stable_at) (slice_index l.time i)

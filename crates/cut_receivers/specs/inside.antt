@@ -1,4 +1,0 @@
--- How cut_receivers keeps its values, and what its private functions promise: no contract of a public function cites it.
-pub mod LaneVerdicts
-pub mod Places
-pub mod Times

@@ -1,0 +1,2 @@
+-- How `bits` keeps its values, and what its private functions promise: no contract of a public function cites it.
+pub mod Bits

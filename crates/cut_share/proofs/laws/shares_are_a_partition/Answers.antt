@@ -1,5 +1,0 @@
-use Rattle.cut_share.proofs.Turns.{one_has}
-use Rattle.cut_share.proofs.laws.shares_are_a_partition.Goals as goal
-
-pub returns-clause-all : goal.returns-clause-all
-returns-clause-all c = one_has

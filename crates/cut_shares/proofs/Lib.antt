@@ -1,0 +1,17 @@
+pub mod Blocks
+pub mod Turns
+pub mod Counting
+pub mod PieceFacts
+pub mod Remaining
+pub mod Dealing
+pub mod Appends
+pub mod Batches
+pub mod Endings
+pub mod LeftTrials
+pub mod Chains
+pub mod Merges
+pub mod Goods
+pub mod Ends
+pub mod RunSums
+pub mod LawsOfJoins
+pub mod Appendings

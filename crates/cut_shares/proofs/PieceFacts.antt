@@ -1,0 +1,32 @@
+-- Pieces of a plan, and the parts that they are cut into.
+use Rattle.std.proofs.Common.{◌≡◌, ℕ, ◌+◌, ◌-◌, ◌%◌, ◌<◌, ◌≤◌, ◌&&◌, true}
+use Rattle.std.proofs.Common.{nat_lt, ap, ◌∙◌, arith}
+use Rattle.std.specs.Prelude.{IsTrue}
+use Rattle.std.proofs.lemmas.Bool.{lt-ltb, le-leb}
+use Rattle.cut_plan.specs.Plan.{IsPlan}
+use Rattle.cut_plan.specs.Values.{Values}
+use Rattle.cut_outcome.specs.declared.piece.Piece.{Piece}
+use Rattle.cut_outcome.specs.Sum.{is_piece}
+use Rattle.cut_ledger.specs.Contents.{is_in}
+use Rattle.cut_ledger.proofs.CellLemmas.{cell_is, piece_facts}
+use Rattle.cut_shares.specs.declared.share.share.Share.{Share}
+use Rattle.cut_shares.specs.share.Share.{is_in_share}
+use Rattle.cut_shares.proofs.Counting.{in_block}
+
+-- a part of a piece is one
+pub part_is_piece : (v : Values) (p q : Piece) → IsPlan v → IsTrue (is_piece v p) → 1 ≤ q.count → p.first ≤ q.first
+    → q.first + q.count ≤ p.first + p.count → IsTrue (is_piece v q)
+part_is_piece v p q plan piece some from to =
+    grind (arith, piece_facts, cell_is)
+
+-- the trials from the first one of a piece on, up to the end of its block, are of the same shares
+pub alike_in_block : (s : Share) (v : Values) (p : Piece) (n t : ℕ) → IsPlan v → IsTrue (is_piece v p) → n ≤ p.count
+    → n ≤ s.block_size - p.first % v.repeats % s.block_size → p.first ≤ t → t < p.first + n
+    → is_in_share s v t ≡ is_in_share s v p.first
+alike_in_block s v p n t plan piece few near from below =
+    grind (arith, piece_facts, in_block)
+
+-- its trials are those that are in it
+pub in_trials : (p : Piece) (t : ℕ) → p.first ≤ t → t < p.first + p.count → is_in p t ≡ true
+in_trials p t from below =
+    ap (λ x. x && nat_lt t (p.first + p.count)) (le-leb p.first t from) ∙ lt-ltb t (p.first + p.count) below

@@ -1,0 +1,26 @@
+-- What is left of the pieces of a share.
+use Rattle.std.proofs.Common.{◌≡◌, ℕ, ◌+◌, true, false, [], ◌∷◌, arith}
+use Rattle.cut_plan.specs.Values.{Values}
+use Rattle.cut_outcome.specs.declared.piece.Piece.{Piece}
+use Rattle.cut_outcome.specs.Outcome.{one_if}
+use Rattle.cut_ledger.specs.Contents.{is_in}
+use Rattle.cut_shares.specs.declared.share.share.Share.{Share}
+use Rattle.cut_shares.specs.share.Share.{is_in_share}
+use Rattle.cut_shares.specs.share.inside.Pieces.{own_times}
+
+-- a block of the share that is taken off, or one of another
+pub block_taken : (s now : Share) (v w : Values) (p q rest : Piece) (t : ℕ) → now ≡ s → w ≡ v
+    → ((i : ℕ) → is_in q i ≡ true → is_in_share now w i ≡ is_in_share now w q.first)
+    → is_in_share now w q.first ≡ true
+    → one_if (is_in q t) + one_if (is_in rest t) ≡ one_if (is_in p t)
+    → one_if (is_in q t) + own_times s v (rest ∷ []) t ≡ own_times s v (p ∷ []) t
+block_taken s now v w p q rest t share plan alike has parts =
+    grind arith
+
+pub block_skipped : (s now : Share) (v w : Values) (p q rest : Piece) (t : ℕ) → now ≡ s → w ≡ v
+    → ((i : ℕ) → is_in q i ≡ true → is_in_share now w i ≡ is_in_share now w q.first)
+    → is_in_share now w q.first ≡ false
+    → one_if (is_in q t) + one_if (is_in rest t) ≡ one_if (is_in p t)
+    → own_times s v (rest ∷ []) t ≡ own_times s v (p ∷ []) t
+block_skipped s now v w p q rest t share plan alike not parts =
+    grind arith

@@ -1,0 +1,3 @@
+-- How `join` keeps its values, and what its private functions promise: no contract of a public function cites it.
+pub mod Joining
+pub mod Merging

@@ -1,0 +1,17 @@
+//! The share of one machine in a study.
+//!
+//! Several machines run the study of one plan, each a [`Share`] of the trials.
+
+mod append;
+mod batch;
+mod fault;
+pub mod laws;
+mod share;
+mod share_pieces;
+mod share_run;
+mod piece_task;
+mod env;
+
+pub use fault::ShareFault;
+pub use share::Share;
+pub use share_run::ShareRun;

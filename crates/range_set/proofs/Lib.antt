@@ -1,5 +1,0 @@
-pub mod EdgeLemmas
-pub mod BlockLemmas
-pub mod SpanLemmas
-pub mod SetLemmas
-pub mod CoverLemmas

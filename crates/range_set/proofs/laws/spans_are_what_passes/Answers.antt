@@ -1,5 +1,0 @@
-use Rattle.range_set.proofs.CoverLemmas.{spans_cover, spans_within}
-use Rattle.range_set.proofs.laws.spans_are_what_passes.Goals as goal
-
-pub returns : goal.returns
-returns c = record { cover = spans_cover; within = spans_within }

@@ -1,6 +1,0 @@
-use Rattle.std.proofs.Common.{arith}
-use Rattle.range_set.proofs.range_set.RangeSet.is_of_section.Goals as goal
-
-pub returns : goal.returns
-returns c =
-    grind arith

@@ -1,8 +1,0 @@
-use Rattle.std.proofs.Common.{arith}
-use Rattle.std.proofs.lemmas.List.{get_or_read, length-map}
-use Rattle.range_set.proofs.SetLemmas.{reserved_is}
-use Rattle.range_set.proofs.range_set.RangeSet.reserve.Goals as goal
-
-pub returns-clause-ok : goal.returns-clause-ok
-returns-clause-ok c =
-    grind (arith, length-map, get_or_read, reserved_is)
