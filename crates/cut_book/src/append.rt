@@ -9,7 +9,7 @@ ghost use Rattle.cut_book.specs.History.{event_of};
 
 use cut_disks::{Disk, DiskFault};
 use cut_journal::Journal;
-use cut_journal::laws::{appends_follow_the_run, crashes_are_resumptions};
+use cut_journal::laws;
 use cut_outcome::PieceResult;
 
 /// Appends the slip of a result to a journal, if there is one. Fails if the disk does.
@@ -30,11 +30,11 @@ pub(crate) fn append<D: Disk>(
     ensures faults { failures_of D.log journal.new
         ≡ faults_after (Some (append_answer result)) (failures_of D.log journal.old) }
 {
-    crashes_are_resumptions();
+    laws::crashes_are_resumptions();
     match journal {
         None => Ok(()),
         Some(journal) => {
-            appends_follow_the_run::<D>();
+            laws::appends_follow_the_run::<D>();
             match journal.append(offered) {
                 Ok(_) => Ok(()),
                 Err(_) => Err(DiskFault),

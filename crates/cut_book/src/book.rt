@@ -33,7 +33,7 @@ use crate::{Answer, BookFault, Call, History};
 use cut_sets::bits::BitList;
 use cut_disks::Disk;
 use cut_journal::Journal;
-use cut_journal::laws::{crashes_are_resumptions, journals_begin_with_their_runs};
+use cut_journal::laws;
 use cut_ledger::{Division, Ledger, OfferFault, Slip, slip_of};
 use cut_outcome::{Piece, PieceResult};
 use cut_plan::Plan;
@@ -100,7 +100,7 @@ impl<D: Disk> Book<D> {
         ensures good { OnOk result (AreGood plan slips.now) }
         ensures err { IfErr result (λ e. IsOpeningFault plan slips.now e) }
     {
-        journals_begin_with_their_runs();
+        laws::journals_begin_with_their_runs();
         let failed = failures(&journal);
         let (ledger, division, lost, history) = begin(
             alloc,
@@ -319,7 +319,7 @@ impl<D: Disk> Book<D> {
         ensures { IfSome self.now.journal (λ log. IsKnown (D.log log.disk) → (image : List ℕ) → IsImage (on (D.log log.disk)).stable image
             → IsResumed log.plan self.now.state image) }
     {
-        crashes_are_resumptions();
+        laws::crashes_are_resumptions();
         if let Some(journal) = &self.journal {
             journal.stays_readable();
         }
@@ -331,7 +331,7 @@ impl<D: Disk> Book<D> {
         ensures { LeavesResumed D.log self.now.journal self.now.journal
             (after self.now.state (event.HandInDiskFails offered.now)) }
     {
-        crashes_are_resumptions();
+        laws::crashes_are_resumptions();
         if let Some(journal) = &self.journal {
             journal.stays_readable();
         }

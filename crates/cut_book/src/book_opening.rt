@@ -12,7 +12,7 @@ use crate::{Book, Shelf, SubmitFault};
 use cut_disks::Disk;
 use cut_journal::{Journal, JournalFault};
 use cut_ledger::Slip;
-use cut_ledger::laws::true_slips_give_the_table;
+use cut_ledger::laws;
 use cut_plan::Plan;
 use std::alloc::Global;
 
@@ -31,7 +31,7 @@ pub fn open_book<D: Disk + Drop, S: Shelf<D>>(
     ensures over { (given : Result (Option D) ShelfFault) × (S.gives shelf.now plan given
         × OpensOver D.log plan given result) }
 {
-    true_slips_give_the_table();
+    laws::true_slips_give_the_table();
     match shelf.open(alloc, &plan)? {
         Some(disk) => {
             let opened = Journal::open(alloc, disk, &plan);

@@ -6,7 +6,7 @@ ghost use Rattle.cut_book.specs.inside.HistoryInside.{lost_call};
 ghost use Rattle.cut_book.specs.declared.call.Call.TheVariants as call;
 
 use crate::{Answer, Call};
-use cut_ledger::laws::same_plans_are_equal;
+use cut_ledger::laws;
 use cut_ledger::{Base, Ledger};
 use cut_plan::Plan;
 use std::alloc::{AllocError, Global};
@@ -106,7 +106,7 @@ impl History {
         ensures plan { IsPlan self.now.opening.plan }
         ensures few { result ≤ trial_count self.now.opening.plan }
     {
-        same_plans_are_equal();
+        laws::same_plans_are_equal();
         let mut sum = 0;
         for entry in &self.entries {
             sum += accepted_count(entry.call);

@@ -8,9 +8,7 @@ use crate::checkpoint::open_checkpoint;
 use crate::input::PlanSource;
 use cut_disks::Disk;
 use cut_files::{Files, MemoryFiles, Mode};
-use cut_ledger::laws::true_slips_give_the_table;
 use cut_outcome::Gate;
-use cut_plan::accepted_texts_give_plans;
 use cut_pool::StudyRun;
 use cut_wires::Wire;
 use std::alloc::Global;
@@ -100,8 +98,8 @@ where
     ensures { RunsFrom (option_map D.log study.entry.disk) (source_place F.log study.entry.source)
         (W.log wire.old) (W.log wire.new) result }
 {
-    accepted_texts_give_plans();
-    true_slips_give_the_table();
+    cut_plan::laws::accepted_texts_give_plans();
+    cut_ledger::laws::true_slips_give_the_table();
     run_over_slips(rt, alloc, wire, study)
 }
 

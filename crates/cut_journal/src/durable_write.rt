@@ -3,7 +3,7 @@ ghost use Rattle.cut_faults.specs.Failures.{counted};
 ghost use Rattle.cut_disks.specs.Log.{Goes, Knows};
 ghost use Rattle.cut_journal.specs.inside.Steps.{WritesThrough};
 
-use cut_disks::laws::writes_stay_in_their_span;
+use cut_disks::laws;
 use cut_disks::{Disk, DiskFault};
 
 /// Writes bytes at a place and makes them durable.
@@ -12,7 +12,7 @@ pub(crate) fn write_through<D: Disk>(disk: &mut D, at: u64, put: &[u8]) -> Resul
     ensures writes { Goes (counted result) (WritesThrough result at put.now) (D.log disk.old) (D.log disk.new) }
     ensures bound { OnOk result (at + length put.now < 2 ^ 63) }
 {
-    writes_stay_in_their_span();
+    laws::writes_stay_in_their_span();
     disk.write_at(at, put)?;
     disk.sync()
 }

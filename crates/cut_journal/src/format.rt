@@ -17,7 +17,8 @@ use crate::first_bytes::length_in_header;
 use crate::layout::{magic_of, numbers_length, slip_length};
 use cut_ledger::Slip;
 use cut_outcome::{Piece, Totals};
-use cut_plan::{Plan, Version, canonical_text_reads_back};
+use cut_plan::{Plan, Version};
+use cut_plan::laws;
 use sha2::{Digest, Sha256};
 use std::alloc::{AllocError, Global};
 use std::marker::Model;
@@ -249,7 +250,7 @@ fn text_length(plan: &Plan, text: &[u8]) -> u32
     ensures value { result ≡ length (canonical_text plan.now) }
     ensures short { result ≤ LONGEST_TEXT }
 {
-    canonical_text_reads_back();
+    laws::canonical_text_reads_back();
     plan.cells();
     text.len() as u32
 }

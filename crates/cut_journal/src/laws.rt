@@ -5,7 +5,6 @@ ghost use Rattle.cut_journal.specs.Laws.{AppendsFollow, CrashesBetweenCalls, Cra
 ghost use Rattle.cut_journal.specs.Laws.{OtherEventsFollow, ResumedSlipsAreGood};
 
 use cut_disks::Disk;
-use cut_ledger::laws::{every_run_is_right, true_slips_give_the_table};
 
 /// A crash is a resumption of the run, as the machine has it: whatever is left of the disk, between two calls
 /// or at any moment of an append, says the slips that the run finds with one choice whether the slip whose
@@ -33,6 +32,6 @@ pub fn appends_follow_the_run<D: Disk>()
 pub fn resumed_slips_are_good()
     ensures { ResumedSlipsAreGood }
 {
-    every_run_is_right();
-    true_slips_give_the_table();
+    cut_ledger::laws::every_run_is_right();
+    cut_ledger::laws::true_slips_give_the_table();
 }

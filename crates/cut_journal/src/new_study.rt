@@ -10,7 +10,7 @@ use crate::JournalFault;
 use crate::durable_write::write_through;
 use crate::first_look::look_first;
 use crate::format::{CLOSED_GATE, FileHeader, OPEN_GATE};
-use cut_disks::laws::writes_stay_in_their_span;
+use cut_disks::laws;
 use cut_disks::{Disk, DiskFault};
 use std::alloc::Global;
 
@@ -72,7 +72,7 @@ fn close_study_gate<D: Disk>(disk: &mut D, size: u64) -> Result<(), DiskFault>
     if size > 1 {
         return Ok(());
     }
-    writes_stay_in_their_span();
+    laws::writes_stay_in_their_span();
     write_through(disk, 0, &[CLOSED_GATE])
 }
 
@@ -81,7 +81,7 @@ fn write_rest<D: Disk>(disk: &mut D, file: NewFile<'_>) -> Result<(), DiskFault>
     requires { Knows (D.log disk.old) IsClosed }
     ensures writes { Goes (counted result) (WritesRest result file.entry.study.now) (D.log disk.old) (D.log disk.new) }
 {
-    writes_stay_in_their_span();
+    laws::writes_stay_in_their_span();
     write_through(disk, 1, file.rest)
 }
 
@@ -91,6 +91,6 @@ fn open_study_gate<D: Disk>(disk: &mut D, study: &FileHeader) -> Result<(), Disk
     ensures opens { Goes (counted result) (WritesNew result study.now) (D.log disk.old) (D.log disk.new) }
 {
     study.is_short();
-    writes_stay_in_their_span();
+    laws::writes_stay_in_their_span();
     write_through(disk, 0, &[OPEN_GATE])
 }

@@ -9,7 +9,7 @@ ghost use Rattle.cut_journal.specs.inside.Places.{gate_place};
 
 use crate::durable_write::write_through;
 use crate::format::{FileHeader, Gate, OPEN_GATE};
-use cut_disks::laws::writes_stay_in_their_span;
+use cut_disks::laws;
 use cut_disks::{Disk, DiskFault};
 use cut_ledger::Slip;
 
@@ -35,7 +35,7 @@ pub(crate) fn keep_slip<D: Disk>(disk: &mut D, next: NextSlip<'_>) -> Result<(),
     ensures bound { OnOk result
         (next.entry.gate.place + slip_length (version_of next.entry.study.now.failing) < 2 ^ 63) }
 {
-    writes_stay_in_their_span();
+    laws::writes_stay_in_their_span();
     let NextSlip { study, gate, slip } = next;
     let bytes = study.slip_bytes(slip);
     let put = &bytes[..study.slip_length() as usize];

@@ -16,8 +16,6 @@ ghost use Rattle.cut_laws.specs.Columns.{
   NoTargetsLeaveNoConflictsInSums,
 };
 
-use cut_detector::laws::proposes_at_least_place;
-use cut_outcome::laws::{decided_by_votes, receivers_are_the_rest, right_is_decided};
 
 /// A quorum is all N processes, failed ones included, less a quarter of N - 1, rounded down. So if more than that
 /// quarter fail or are silent, no trial is decided, whatever K, H and L are.
@@ -25,8 +23,8 @@ pub fn too_few_voters_decide_nothing()
     ensures trials { TooFewVotersDecideNothing }
     ensures sums { TooManyFailedLeaveNoneDecided }
 {
-    decided_by_votes();
-    right_is_decided();
+    cut_outcome::laws::decided_by_votes();
+    cut_outcome::laws::right_is_decided();
 }
 
 /// A trial is right where enough receivers are neither silent nor a conflict and propose no other process. Where none
@@ -35,7 +33,7 @@ pub fn right_by_verdicts()
     ensures verdicts { TrialsAreRightByVerdicts }
     ensures without_extra { RightWithoutExtra }
 {
-    receivers_are_the_rest();
+    cut_outcome::laws::receivers_are_the_rest();
 }
 
 /// The processes can decide on a wrong set only if a quorum proposes it, and each of these receivers is a conflict or
@@ -44,7 +42,7 @@ pub fn wrong_decisions_need_a_wrong_quorum()
     ensures trials { TrialsAreWrongByVerdicts }
     ensures sums { SumsAreWrongByVerdicts }
 {
-    receivers_are_the_rest();
+    cut_outcome::laws::receivers_are_the_rest();
 }
 
 /// Receivers that are neither silent nor a conflict, and propose no other process, propose the same: the votes are at
@@ -55,8 +53,8 @@ pub fn the_others_are_right()
     ensures sums { SumsHaveVotesOfTheRight }
     ensures right { SumsAreRightUnlessLost }
 {
-    receivers_are_the_rest();
-    right_is_decided();
+    cut_outcome::laws::receivers_are_the_rest();
+    cut_outcome::laws::right_is_decided();
 }
 
 /// If no process fails, no receiver is a conflict, and each that proposes names a healthy process.
@@ -64,6 +62,6 @@ pub fn no_targets_leave_no_conflicts()
     ensures trials { NoTargetsLeaveNoConflicts }
     ensures sums { NoTargetsLeaveNoConflictsInSums }
 {
-    proposes_at_least_place();
-    receivers_are_the_rest();
+    cut_detector::laws::proposes_at_least_place();
+    cut_outcome::laws::receivers_are_the_rest();
 }

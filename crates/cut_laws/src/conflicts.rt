@@ -6,10 +6,6 @@ ghost use Rattle.cut_laws.specs.Conflicts.{
   ReversesHaveDualWatermarks,
 };
 
-use cut_detector::laws::{
-    a_wider_gap_proposes_later, more_edges_only_add, proposes_at_least_place,
-};
-use cut_draws::laws::edges_come_at_their_first_time;
 
 /// A proposal lacks a target exactly where, after some number of deliveries, some process is stable, none is
 /// unstable, and some target isn't stable. It need not be asked which number is the least, since alerts only add to
@@ -18,9 +14,9 @@ pub fn conflicts_are_settled_too_soon()
     ensures sets { ConflictsAreSettledTooSoon }
     ensures trials { ReceiversSettleTooSoon }
 {
-    edges_come_at_their_first_time();
-    more_edges_only_add();
-    proposes_at_least_place();
+    cut_draws::laws::edges_come_at_their_first_time();
+    cut_detector::laws::more_edges_only_add();
+    cut_detector::laws::proposes_at_least_place();
 }
 
 /// If each target is reported once on each of K rings, nobody else is, and there are no implicit alerts, an order of
@@ -29,6 +25,6 @@ pub fn conflicts_are_settled_too_soon()
 pub fn reverses_have_dual_watermarks()
     ensures { ReversesHaveDualWatermarks }
 {
-    a_wider_gap_proposes_later();
+    cut_detector::laws::a_wider_gap_proposes_later();
     conflicts_are_settled_too_soon();
 }

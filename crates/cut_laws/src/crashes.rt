@@ -8,11 +8,6 @@ ghost use Rattle.cut_laws.specs.Crashes.{
 };
 
 use crate::ends::settled_ends_leave_none_silent;
-use cut_detector::laws::{
-    none_is_marked_unheard, targets_alone, unstable_are_reported_and_not_stable,
-};
-use cut_outcome::laws::receivers_are_the_rest;
-use cut_plan::cells_are_the_combinations;
 
 /// With crashes alone a target is reported on the rings whose observer has not crashed, or on all where crashed
 /// observers speak, and no other process is reported.
@@ -29,10 +24,10 @@ pub fn crashed_observers_raise_no_alerts()
 pub fn enough_alerts_leave_none_silent()
     ensures { EnoughAlertsLeaveNoneSilent }
 {
-    cells_are_the_combinations();
-    none_is_marked_unheard();
-    receivers_are_the_rest();
+    cut_plan::laws::cells_are_the_combinations();
+    cut_detector::laws::none_is_marked_unheard();
+    cut_outcome::laws::receivers_are_the_rest();
     settled_ends_leave_none_silent();
-    targets_alone();
-    unstable_are_reported_and_not_stable();
+    cut_detector::laws::targets_alone();
+    cut_detector::laws::unstable_are_reported_and_not_stable();
 }

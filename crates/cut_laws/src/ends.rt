@@ -8,10 +8,6 @@ ghost use Rattle.cut_laws.specs.Ends.{
   SettledEndsLeaveNoneSilent,
 };
 
-use cut_detector::laws::{more_edges_only_add, none_is_marked_unheard, proposes_at_least_place};
-use cut_draws::laws::{deliveries_are_copies_of_edges, edges_come_at_their_first_time};
-use cut_outcome::laws::receivers_are_the_rest;
-use cut_plan::cells_are_the_combinations;
 
 /// Alerts only add to what is stable. So no receiver proposes a process that isn't stable once all alerts have come,
 /// and if a target isn't, as one whose observers have mostly crashed and are silent, every receiver that proposes is a
@@ -22,10 +18,10 @@ pub fn only_who_ends_stable_is_proposed()
     ensures others { StableTargetsAloneLeaveNoExtra }
     ensures none { NoneStableLeavesAllSilent }
 {
-    deliveries_are_copies_of_edges();
-    more_edges_only_add();
-    proposes_at_least_place();
-    receivers_are_the_rest();
+    cut_draws::laws::deliveries_are_copies_of_edges();
+    cut_detector::laws::more_edges_only_add();
+    cut_detector::laws::proposes_at_least_place();
+    cut_outcome::laws::receivers_are_the_rest();
 }
 
 /// If some process is stable once all alerts have come and none is unstable then, every receiver proposes: at the last
@@ -33,10 +29,10 @@ pub fn only_who_ends_stable_is_proposed()
 pub fn settled_ends_leave_none_silent()
     ensures { SettledEndsLeaveNoneSilent }
 {
-    cells_are_the_combinations();
-    deliveries_are_copies_of_edges();
-    edges_come_at_their_first_time();
-    none_is_marked_unheard();
-    proposes_at_least_place();
-    receivers_are_the_rest();
+    cut_plan::laws::cells_are_the_combinations();
+    cut_draws::laws::deliveries_are_copies_of_edges();
+    cut_draws::laws::edges_come_at_their_first_time();
+    cut_detector::laws::none_is_marked_unheard();
+    cut_detector::laws::proposes_at_least_place();
+    cut_outcome::laws::receivers_are_the_rest();
 }

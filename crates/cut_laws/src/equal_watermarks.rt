@@ -10,22 +10,17 @@ ghost use Rattle.cut_laws.specs.EqualWatermarks.{
 };
 
 use crate::ends::{only_who_ends_stable_is_proposed, settled_ends_leave_none_silent};
-use cut_detector::laws::{equal_watermarks, none_is_marked_unheard, proposes_at_least_place};
-use cut_draws::laws::edges_come_at_their_first_time;
-use cut_outcome::laws::receivers_are_the_rest;
-use cut_plan::cells_are_the_combinations;
-use cut_rings::laws::edge_numbers_name_edges;
 
 /// With L = H nothing holds a receiver back: it proposes at the first delivery after which some process is stable,
 /// and a delivery makes one process stable at most. So every proposal has exactly one member.
 pub fn one_process_is_proposed()
     ensures { ProposesOneProcess }
 {
-    edge_numbers_name_edges();
-    edges_come_at_their_first_time();
-    equal_watermarks();
-    none_is_marked_unheard();
-    proposes_at_least_place();
+    cut_rings::laws::edge_numbers_name_edges();
+    cut_draws::laws::edges_come_at_their_first_time();
+    cut_detector::laws::equal_watermarks();
+    cut_detector::laws::none_is_marked_unheard();
+    cut_detector::laws::proposes_at_least_place();
 }
 
 /// With L = H either all receivers are silent or none is, by whether some process is stable once all alerts have
@@ -35,11 +30,11 @@ pub fn equal_watermarks_split_failures()
     ensures trials { TwoTargetsMakeAllConflicts }
     ensures sums { TwoTargetsMakeSumsAllConflicts }
 {
-    cells_are_the_combinations();
-    equal_watermarks();
+    cut_plan::laws::cells_are_the_combinations();
+    cut_detector::laws::equal_watermarks();
     one_process_is_proposed();
     only_who_ends_stable_is_proposed();
-    receivers_are_the_rest();
+    cut_outcome::laws::receivers_are_the_rest();
     settled_ends_leave_none_silent();
 }
 
@@ -49,5 +44,5 @@ pub fn implicit_alerts_change_nothing()
     ensures trials { ImplicitAlertsChangeNoTrial }
     ensures sums { ImplicitAlertsChangeNoSums }
 {
-    equal_watermarks();
+    cut_detector::laws::equal_watermarks();
 }

@@ -2,9 +2,6 @@
 
 ghost use Rattle.cut_laws.specs.OtherWatermarks.{AHigherHWaitsLonger, ALowerLWaitsLonger, LongerWaitsAddUp};
 
-use cut_detector::laws::{a_wider_gap_proposes_later, proposes_at_least_place};
-use cut_draws::laws::edges_come_at_their_first_time;
-use cut_outcome::laws::{higher_h, wider_gap};
 
 /// Two plans that differ in their one H alone have the same trials. With the higher H each receiver waits longer: no
 /// fewer are silent, no more are a conflict, and who proposes does so no sooner, of no fewer processes. So in each
@@ -12,20 +9,20 @@ use cut_outcome::laws::{higher_h, wider_gap};
 pub fn a_higher_h_waits_longer()
     ensures { AHigherHWaitsLonger }
 {
-    a_wider_gap_proposes_later();
-    edges_come_at_their_first_time();
-    higher_h();
-    proposes_at_least_place();
+    cut_detector::laws::a_wider_gap_proposes_later();
+    cut_draws::laws::edges_come_at_their_first_time();
+    cut_outcome::laws::higher_h();
+    cut_detector::laws::proposes_at_least_place();
 }
 
 /// Without implicit alerts the same holds of two plans that differ in their one L alone, with the lower L.
 pub fn a_lower_l_waits_longer()
     ensures { ALowerLWaitsLonger }
 {
-    a_wider_gap_proposes_later();
-    edges_come_at_their_first_time();
-    proposes_at_least_place();
-    wider_gap();
+    cut_detector::laws::a_wider_gap_proposes_later();
+    cut_draws::laws::edges_come_at_their_first_time();
+    cut_detector::laws::proposes_at_least_place();
+    cut_outcome::laws::wider_gap();
 }
 
 /// Where receivers wait longer by a second plan than by a first, and by a third than by the second, they wait longer

@@ -7,7 +7,7 @@ ghost use Rattle.cut_laws.specs.Reports.{
 };
 
 use crate::ends::only_who_ends_stable_is_proposed;
-use cut_detector::laws::{proposes_at_least_place, unstable_are_reported_and_not_stable};
+use cut_detector::laws;
 
 /// Where a receiver proposes, each member is reported on at least H rings, or L with implicit alerts, and each
 /// process that it leaves out on fewer than L: that is how many reports are taken for noise. So a target is left out
@@ -15,8 +15,8 @@ use cut_detector::laws::{proposes_at_least_place, unstable_are_reported_and_not_
 pub fn proposes_by_reports()
     ensures { ProposesByReports }
 {
-    proposes_at_least_place();
-    unstable_are_reported_and_not_stable();
+    laws::proposes_at_least_place();
+    laws::unstable_are_reported_and_not_stable();
 }
 
 /// A process about which fewer than H observers raise alerts, or L with implicit alerts, is proposed by nobody: a

@@ -12,9 +12,6 @@ ghost use Rattle.cut_ledger.specs.declared.event.Event.{Event};
 ghost use Rattle.cut_ledger.specs.Machine.{start};
 ghost use Rattle.cut_ledger.specs.World.{begun, run, HasTrueResult, IsRight, SayAlike};
 
-use cut_outcome::laws::pieces_have_possible_totals;
-use cut_plan::canonical_text_reads_back;
-use cut_sets::ranges::laws::spans_are_what_passes;
 
 /// The gaps, and the pieces of any size that they are cut into, have exactly the trials that are not held,
 /// each of them once.
@@ -22,7 +19,7 @@ pub fn gaps_are_what_is_not_held()
     ensures gaps { GapsCover }
     ensures pieces { PiecesCover }
 {
-    spans_are_what_passes();
+    cut_sets::ranges::laws::spans_are_what_passes();
 }
 
 /// The pieces of any size that a ledger lacks can be added in their order: none of them overlaps an earlier one, and at
@@ -33,7 +30,7 @@ pub fn pieces_fill_a_ledger()
     ensures done { CompleteIsDone }
     ensures table { FilledGiveTheirTable }
 {
-    spans_are_what_passes();
+    cut_sets::ranges::laws::spans_are_what_passes();
 }
 
 /// Slips are apart from a piece of their plan exactly where the ledger that begins with them holds no trial of it.
@@ -49,7 +46,7 @@ pub fn true_slips_give_the_table()
     ensures sums { TrueSlipsSumAll }
     ensures none { NoSlipsAreTrue }
 {
-    pieces_have_possible_totals();
+    cut_outcome::laws::pieces_have_possible_totals();
 }
 
 /// Plans are distinguished by their canonical texts, and a plan can be read back from its own: so plans that
@@ -57,7 +54,7 @@ pub fn true_slips_give_the_table()
 pub fn same_plans_are_equal()
     ensures { SamePlansAreEqual }
 {
-    canonical_text_reads_back();
+    cut_plan::laws::canonical_text_reads_back();
 }
 
 /// Every run is right: over every list of events, resumptions after crashes included, and any results of any plans,

@@ -16,7 +16,7 @@ use crate::{Base, Division, OfferFault, Slip, SlipsFault};
 use cut_outcome::{Piece, PieceResult, Totals};
 use cut_plan::Plan;
 use cut_sets::ranges::Span;
-use cut_sets::ranges::laws::spans_are_what_passes;
+use cut_sets::ranges::laws;
 use std::alloc::{AllocError, Global};
 use std::marker::Model;
 
@@ -131,7 +131,7 @@ impl Ledger {
             (λ gaps. All (λ p. IsTrue (is_piece self.now.contents.plan p)) gaps.items) }
         ensures plan { IsPlan self.now.contents.plan }
     {
-        spans_are_what_passes();
+        laws::spans_are_what_passes();
         let mut gaps = Vec::new(alloc);
         for cell in 0..self.plan.cells() {
             let span = span_of_cell(&self.plan, cell);
@@ -147,7 +147,7 @@ impl Ledger {
         ensures pieces { IfOk result
             (λ pieces. All (λ p. IsTrue (is_piece self.now.contents.plan p)) pieces.items) }
     {
-        spans_are_what_passes();
+        laws::spans_are_what_passes();
         let gaps = self.gaps(alloc)?;
         let mut pieces = Vec::new(alloc);
         for gap in &gaps {
@@ -162,7 +162,7 @@ impl Ledger {
         ensures value { IfOk result (λ pieces. pieces ≡ pieces_of self.now.contents size) }
         ensures pieces { IfOk result (λ pieces. All (λ p. IsTrue (is_piece self.now.contents.plan p)) pieces) }
     {
-        spans_are_what_passes();
+        laws::spans_are_what_passes();
         let gaps = self.gaps(alloc)?;
         Division::of_gaps(alloc, &gaps, size)
     }

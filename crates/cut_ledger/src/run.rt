@@ -11,7 +11,7 @@ ghost use Rattle.cut_ledger.specs.Machine.{TakesNone};
 use crate::available::available;
 use crate::{Bytes, Event, Ledger, Reply, Slip, SlipsFault, slip_of};
 use cut_faults::FaultCode;
-use cut_outcome::laws::pieces_have_possible_totals;
+use cut_outcome::laws;
 use cut_outcome::{Piece, PieceResult};
 use cut_plan::Plan;
 use std::alloc::{AllocError, Global};
@@ -190,7 +190,7 @@ impl Run {
         ensures after { OnOk result (self.new ≡ after self.old (event.CrashReopen keep size)) }
         ensures err { OnErr result (self.new ≡ self.old) }
     {
-        pieces_have_possible_totals();
+        laws::pieces_have_possible_totals();
         let slips = self.slips_found(alloc, keep)?;
         let plan = self.ledger.plan().try_clone(alloc)?;
         let ledger = match Ledger::from_slips(alloc, plan, slips.as_slice()) {

@@ -7,7 +7,7 @@ ghost use Rattle.cut_outcome.specs.Sum.{is_piece};
 ghost use Rattle.cut_ledger.specs.Machine.{slip_of};
 
 use cut_outcome::{Piece, PieceResult, Totals};
-use cut_plan::plans_are_accepted;
+use cut_plan::laws;
 
 /// What a checkpoint says of a piece: that its trials have these sums.
 #[derive(Clone, Copy, Debug, PartialEq, Eq)]
@@ -26,7 +26,7 @@ pub fn slip_of(offered: &PieceResult) -> Slip
     ensures possible { ArePossible offered.now.plan (cell_at offered.now.plan offered.now.piece.first)
         offered.now.piece.count result.totals }
 {
-    plans_are_accepted(offered.plan());
+    laws::plans_are_accepted(offered.plan());
     Slip {
         piece: offered.piece(),
         totals: offered.totals(),

@@ -17,7 +17,7 @@ use crate::join_target::{Written, write_joined};
 use cut_commands::{CliFault, PlanSource, write_answer};
 use cut_disks::Disk;
 use cut_files::{Files, Mode};
-use cut_shares::join::laws::joined_slips_give_the_same_table;
+use cut_shares::join::laws;
 use cut_ledger::Slip;
 use cut_plan::Plan;
 use cut_status::trials_held;
@@ -84,7 +84,7 @@ pub fn join<F: Files, W: Wire>(
     ensures slips { JoinedAreTrue }
     ensures table { JoinedGiveThePlansTable }
 {
-    joined_slips_give_the_same_table();
+    laws::joined_slips_give_the_same_table();
     let to = paths.to;
     let disk = match files.open(to, Mode::Create) {
         Ok(disk) => disk,

@@ -3,8 +3,6 @@
 ghost use Rattle.cut_machines.specs.Laws.{CompleteSharesHaveAllTrials, FirstSlipsAreOfShare, ResumedSlipsAreOfShare};
 ghost use Rattle.cut_machines.specs.Laws.{ResumedSlipsAreWhole, SharesAreGood, SharesAreTrue, SharesGiveThePlansTable};
 
-use cut_shares::join::laws::{joined_slips_give_the_same_table, joined_slips_have_the_same_trials};
-use cut_ledger::laws::true_slips_give_the_table;
 
 /// Files of shares of one plan join to the plan's table, in any order, whatever the number of shares and the size of
 /// blocks are, and however many shares are missing or stopped early: the slips of all files are true ones, no two of
@@ -16,9 +14,9 @@ pub fn shares_join_to_the_table()
     ensures table { SharesGiveThePlansTable }
     ensures whole { CompleteSharesHaveAllTrials }
 {
-    true_slips_give_the_table();
-    joined_slips_give_the_same_table();
-    joined_slips_have_the_same_trials();
+    cut_ledger::laws::true_slips_give_the_table();
+    cut_shares::join::laws::joined_slips_give_the_same_table();
+    cut_shares::join::laws::joined_slips_have_the_same_trials();
 }
 
 /// A share may be stopped, by a crash too, and resumed: the first of its slips are slips of the share, and so are these

@@ -18,7 +18,7 @@ use crate::MigrateFault;
 use cut_disks::Disk;
 use cut_journal::{Journal, JournalFault};
 use cut_ledger::{Ledger, Slip, SlipsFault};
-use cut_outcome::laws::{pieces_have_possible_totals, upgrades_keep_outcomes};
+use cut_outcome::laws;
 use cut_outcome::{PieceResult, Totals};
 use cut_plan::{Plan, Version};
 use cut_rings::Rings;
@@ -183,8 +183,8 @@ fn is_true(slip: &Slip, found: &PieceResult, target: Target<'_>) -> bool
     requires found { found.now ≡ record { plan = target.upgrade.now; piece = slip.now.piece } }
     ensures { IsTrue result ↔ IsTrueSlip target.entry.plan.now slip.now }
 {
-    pieces_have_possible_totals();
-    upgrades_keep_outcomes();
+    laws::pieces_have_possible_totals();
+    laws::upgrades_keep_outcomes();
     let unshown = Totals {
         settled: 0,
         ..found.totals()

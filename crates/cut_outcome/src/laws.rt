@@ -28,9 +28,6 @@ ghost use Rattle.cut_outcome.specs.Laws.{
   SettledReachesLow,
 };
 
-use cut_alerts::laws::as_many_deaf_draw_alike;
-use cut_detector::laws::{a_wider_gap_proposes_later, proposes_at_least_place, targets_alone};
-use cut_plan::{cells_are_the_combinations, upgrades_fail_alike};
 
 /// The fast round agrees: with at most one proposal per process, two quorums have a proposal in common, so no two
 /// different proposals are both decided.
@@ -79,9 +76,9 @@ pub fn only_crashes()
     ensures others { NoneProposesOthers }
     ensures silent { NoneIsSilentWhereObserversSpeak }
 {
-    cells_are_the_combinations();
-    targets_alone();
-    proposes_at_least_place();
+    cut_plan::laws::cells_are_the_combinations();
+    cut_detector::laws::targets_alone();
+    cut_detector::laws::proposes_at_least_place();
 }
 
 /// With a higher H, by the same draws, no receiver that was silent proposes and none becomes a conflict;
@@ -92,7 +89,7 @@ pub fn higher_h()
     ensures verdicts { HigherHIsMoreCautious }
     ensures totals { HigherHHasFewerConflicts }
 {
-    a_wider_gap_proposes_later();
+    cut_detector::laws::a_wider_gap_proposes_later();
 }
 
 /// If no implicit alerts are added, a lower L does the same as a higher H, and so do both together: a wider gap.
@@ -100,7 +97,7 @@ pub fn wider_gap()
     ensures verdicts { AWiderGapIsMoreCautious }
     ensures totals { AWiderGapHasFewerConflicts }
 {
-    a_wider_gap_proposes_later();
+    cut_detector::laws::a_wider_gap_proposes_later();
 }
 
 /// The sums over trials of one cell, as those of a piece are, are possible ones: the receivers are all
@@ -126,7 +123,7 @@ pub fn settled_reaches_watermarks()
     ensures high { SettledReachesHigh }
     ensures low { SettledReachesLow }
 {
-    proposes_at_least_place();
+    cut_detector::laws::proposes_at_least_place();
 }
 
 /// A plan and its upgrade to the second version have the same outcome at every trial but for `settled`, and
@@ -136,7 +133,7 @@ pub fn upgrades_keep_outcomes()
     ensures trials { UpgradesKeepOutcomes }
     ensures sums { UpgradesKeepSums }
 {
-    cells_are_the_combinations();
-    upgrades_fail_alike();
-    as_many_deaf_draw_alike();
+    cut_plan::laws::cells_are_the_combinations();
+    cut_plan::laws::upgrades_fail_alike();
+    cut_alerts::laws::as_many_deaf_draw_alike();
 }

@@ -10,7 +10,7 @@ mod dead;
 mod failing;
 mod faults;
 mod field_checks;
-mod laws;
+pub mod laws;
 mod limits;
 mod plan;
 mod plan_lists;
@@ -22,10 +22,6 @@ pub use cut_fields::{Field, Version};
 pub use dead::Dead;
 pub use failing::Failing;
 pub use faults::Faults;
-pub use laws::{
-    accepted_texts_give_plans, canonical_text_reads_back, cells_are_the_combinations,
-    plans_are_accepted, upgrades_fail_alike,
-};
 pub use limits::{LONGEST_TEXT, MOST_CELLS, MOST_COPIES, MOST_NODES, MOST_REPEATS, MOST_RINGS};
 pub use plan::Plan;
 pub use refusal::{PlanFault, Refusal};

@@ -17,7 +17,8 @@ use cut_disks::Disk;
 use cut_hall::{Blanks, CallLedger, Gate, NextRowFault, Report};
 use cut_journal::Journal;
 use cut_ledger::Slip;
-use cut_plan::{Plan, plans_are_accepted};
+use cut_plan::Plan;
+use cut_plan::laws;
 use cut_status::trials_held;
 use cut_wires::{RowsFault, Wire};
 use std::alloc::Global;
@@ -85,7 +86,7 @@ impl<D: Disk + Drop + Send> StudyRun<'_, D> {
             workers,
         } = self;
         let book = open_kept(alloc, plan, kept, piece_size)?;
-        plans_are_accepted(plan);
+        laws::plans_are_accepted(plan);
         let held = trials_held(plan, book.ledger().base().as_slice());
         gate.opened(rt, u64::from(held), u64::from(plan.trials()));
         let begun = OpenedStudy {

@@ -7,7 +7,7 @@ ghost use Rattle.cut_session.specs.inside.Serving.{Replies, Serves, ServesAll, l
 use crate::SessionEnd;
 use crate::fault_reply::send_fault;
 use crate::rows::{OpenedRows, send_table};
-use cut_board::laws::reads_are_seen;
+use cut_board::laws;
 use cut_book::Shelf;
 use cut_disks::Disk;
 use cut_faults::FaultCode;
@@ -103,7 +103,7 @@ where
         ensures stays { (self.new.hall.now ≡ self.old.hall.now)
             × (self.new.pass.ghost_name ≡ self.old.pass.ghost_name) }
     {
-        reads_are_seen();
+        laws::reads_are_seen();
         match self.hall.counted(self.pass, read_study_number(payload)) {
             Ok(count) => send_message(writer, Kind::Count, &count.to_be_bytes()),
             Err(fault) => send_fault(writer, fault.code()),

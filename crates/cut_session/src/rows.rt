@@ -14,7 +14,7 @@ use cut_disks::Disk;
 use cut_hall::{CallLedger, Hall, NextRowFault, Pass};
 use cut_ledger::lines::header;
 use cut_messages::{Kind, FramedRows, send_message};
-use cut_plan::plans_are_accepted;
+use cut_plan::laws;
 use cut_wires::{CountingWriter, RowSource, RowsFault, Sent, Wire, send_rows};
 use std::alloc::Global;
 use std::sync::Wait;
@@ -112,7 +112,7 @@ where
         × (rows.new.pass.now.hall ≡ rows.old.pass.now.hall)
         × (rows.new.pass.now.view ≡ rows.old.pass.now.view) }
 {
-    plans_are_accepted(&rows.opened.plan);
+    laws::plans_are_accepted(&rows.opened.plan);
     let sent = send_rows::<FramedRows, OpenedRows<'_, D, M, K, R>, W>(rows, writer);
     end_table(writer, sent)
 }

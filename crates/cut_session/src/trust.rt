@@ -1,7 +1,5 @@
 ghost use Rattle.cut_session.specs.Own.{TrustedRepliesAreOwn};
 
-use cut_ledger::laws::true_slips_give_the_table;
-use cut_plan::accepted_texts_give_plans;
 
 /// A client of a hall whose studies begin with true slips reads the frames of its plan's own table, line by line
 /// as the definitions give it trial by trial: all of them, or the first ones and then a fault, or a fault alone.
@@ -11,6 +9,6 @@ use cut_plan::accepted_texts_give_plans;
 pub fn trusted_replies_are_own()
     ensures { TrustedRepliesAreOwn }
 {
-    accepted_texts_give_plans();
-    true_slips_give_the_table();
+    cut_plan::laws::accepted_texts_give_plans();
+    cut_ledger::laws::true_slips_give_the_table();
 }

@@ -9,7 +9,8 @@ ghost use Rattle.cut_status.specs.inside.Study.{IsOfNoPlan};
 
 use crate::StatusFault;
 use cut_journal::header_text;
-use cut_plan::{Plan, PlanFault, accepted_texts_give_plans, canonical_text_reads_back};
+use cut_plan::{Plan, PlanFault};
+use cut_plan::laws;
 use std::alloc::Global;
 
 /// The plan whose canonical text a header says.
@@ -31,8 +32,8 @@ fn canonical_plan(alloc: Global, text: &[u8]) -> Result<Plan, StatusFault>
     ensures text { IfOk result (λ plan. text.now ≡ canonical_text plan) }
     ensures err { IfErr result (IsOfNoPlan text.now) }
 {
-    accepted_texts_give_plans();
-    canonical_text_reads_back();
+    laws::accepted_texts_give_plans();
+    laws::canonical_text_reads_back();
     let plan = match Plan::from_json(alloc, text) {
         Ok(plan) => plan,
         Err(PlanFault::Memory) => return Err(StatusFault::Memory),

@@ -2,7 +2,6 @@
 
 ghost use Rattle.cut_status.specs.Laws.{FaultsAreOfOthers, StatusesAreOne};
 
-use cut_plan::canonical_text_reads_back;
 
 /// Bytes are a study of one plan at most. So they have one status at most, and if they have one no fault says anything
 /// of them but that memory ran out.
@@ -10,5 +9,5 @@ pub fn bytes_have_one_status()
     ensures status { StatusesAreOne }
     ensures fault { FaultsAreOfOthers }
 {
-    canonical_text_reads_back();
+    cut_plan::laws::canonical_text_reads_back();
 }

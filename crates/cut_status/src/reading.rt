@@ -9,7 +9,8 @@ use crate::header::header_plan;
 use crate::{Status, StatusFault};
 use cut_journal::{JournalFault, KeptSlips, is_study};
 use cut_ledger::SlipTally;
-use cut_plan::{Plan, canonical_text_reads_back};
+use cut_plan::Plan;
+use cut_plan::laws;
 use std::alloc::Global;
 
 /// What the bytes of a checkpoint file say of its study: the plan is the one whose canonical text stands in the
@@ -38,7 +39,7 @@ fn tally_in(alloc: Global, bytes: &[u8], plan: Plan) -> Result<SlipTally, Status
     ensures read { IfOk result (IsTallyIn plan bytes.now) }
     ensures err { IfErr result (IsStatusFault bytes.now) }
 {
-    canonical_text_reads_back();
+    laws::canonical_text_reads_back();
     match tally_of(alloc, bytes, plan) {
         Ok(tally) => Ok(tally),
         Err(fault) => Err(status_fault_of(fault)),

@@ -25,7 +25,7 @@ use crate::input::{TrialInput, rings_are_a_layout};
 use crate::replays::Replay;
 use crate::verdict_counts::VerdictCounts;
 use cut_alerts::Roles;
-use cut_arrivals::proposals::laws::none_proposes_where_none_ends_stable;
+use cut_arrivals::proposals::laws;
 use cut_arrivals::blocks::Blocks;
 use cut_draws::Draws;
 use cut_arrivals::candidates::{Candidates, KeyPlaces};
@@ -131,7 +131,7 @@ impl<'a> ReceiverJudge<'a> {
         let candidates = Candidates::of(alloc, rings, rule, edges)?;
         rings_are_a_layout(rings);
         if !candidates.ends_stable {
-            none_proposes_where_none_ends_stable();
+            laws::none_proposes_where_none_ends_stable();
             return self.judge_silent(draws, setup);
         }
         let blocks = Blocks::new(plan.seed(), trial);

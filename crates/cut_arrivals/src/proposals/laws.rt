@@ -26,7 +26,6 @@ ghost use Rattle.cut_arrivals.specs.proposals.Laws.{
   MembersAreTargets,
 };
 
-use crate::blocks::laws::{deliveries_stand_in_blocks, images_are_below_never};
 
 /// A process is reported from its low time on, and stable from its high time on. Between them it is unstable.
 pub fn modes_follow_from_times()
@@ -60,7 +59,7 @@ pub fn closing_gives_the_members()
 pub fn images_give_the_members()
     ensures { ClosesAsProposed }
 {
-    images_are_below_never();
+    crate::blocks::laws::images_are_below_never();
 }
 
 /// Where at most one delivery has the image of the closing time, the whole proposal is known: its place is how many
@@ -68,7 +67,7 @@ pub fn images_give_the_members()
 pub fn images_give_the_place()
     ensures { ClosesAtPlace }
 {
-    images_are_below_never();
+    crate::blocks::laws::images_are_below_never();
 }
 
 /// Who is reported in the end, and who is stable, is the same at each receiver: the edges decide it, and not the keys.
@@ -76,7 +75,7 @@ pub fn receivers_end_alike()
     ensures reported { EndsReportedAlike }
     ensures stable { EndsStableAlike }
 {
-    images_are_below_never();
+    crate::blocks::laws::images_are_below_never();
 }
 
 /// If no process is stable in the end, no receiver proposes.
@@ -88,7 +87,7 @@ pub fn none_proposes_where_none_ends_stable()
 pub fn images_stand_in_blocks()
     ensures { ImagesAreLeast }
 {
-    deliveries_stand_in_blocks();
+    crate::blocks::laws::deliveries_stand_in_blocks();
 }
 
 /// Lows and highs are ranks of few values: the images of alerted edges, and with implicit alerts the lows of both
@@ -101,7 +100,7 @@ pub fn few_values_give_lows_and_highs()
     ensures high { HighIsRankOfFullTimes }
     ensures candidates { ReportedAreCandidates }
 {
-    images_are_below_never();
+    crate::blocks::laws::images_are_below_never();
 }
 
 /// Whether the members lack a target or have another process follows from the processes that are reported in the end.
@@ -111,5 +110,5 @@ pub fn candidates_show_the_verdict()
     ensures other { CandidatesShowOther }
     ensures exact { MembersAreTargets }
 {
-    images_are_below_never();
+    crate::blocks::laws::images_are_below_never();
 }

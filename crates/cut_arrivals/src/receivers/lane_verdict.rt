@@ -8,7 +8,7 @@ ghost use Rattle.cut_arrivals.specs.receivers.LaneVerdicts.{IsVerdictOn};
 
 use crate::receivers::Receivers;
 use crate::receivers::lanes::{bits_of, has_ended, others, silences};
-use crate::proposals::laws::{images_give_the_members, candidates_show_the_verdict};
+use crate::proposals::laws;
 use crate::candidates::Candidates;
 use std::alloc::AllocError;
 
@@ -88,8 +88,8 @@ impl Receivers {
         ensures finds { (x : Reception) (subjects : List ℕ) (i : ℕ) → i < 4 → HasReceived x subjects i self.now
             → IsVerdictOn (flagged subjects wanted.now) (members_at x) (lane_verdict_in result i) }
     {
-        images_give_the_members();
-        candidates_show_the_verdict();
+        laws::images_give_the_members();
+        laws::candidates_show_the_verdict();
         let time = self.proposal_time.time;
         LaneVerdicts {
             doubtful: self.proposal_time.doubt,
@@ -114,8 +114,8 @@ impl Receivers {
             → IfSome (members_at x) (λ ms. members.new.items ≡ ms)) }
         ensures err { OnErr result (members.new.items ≡ []) }
     {
-        images_give_the_members();
-        candidates_show_the_verdict();
+        laws::images_give_the_members();
+        laws::candidates_show_the_verdict();
         members.clear();
         members.reserve(candidates.candidates.len())?;
         for (place, candidate) in candidates.candidates.iter().enumerate() {

@@ -13,8 +13,6 @@ use crate::receivers::deliveries::{Deliveries, Kept};
 use crate::receivers::lane_verdict::has_bit;
 use crate::receivers::lanes::{bits_of, counted, next_of, not_next, rows_of};
 use crate::receivers::{Receivers, Trial};
-use crate::proposals::laws::images_give_the_place;
-use crate::blocks::laws::{deliveries_stand_in_blocks, images_are_below_never};
 use crate::candidates::{KeyPlace, KeyPlaces};
 use std::alloc::AllocError;
 use std::simd::u32x4;
@@ -77,7 +75,7 @@ impl Receivers {
             → HasReceived x subjects i self.new }
         ensures proposal_time { self.new.proposal_time ≡ self.old.proposal_time }
     {
-        images_give_the_place();
+        crate::proposals::laws::images_give_the_place();
         let kept = self.kept.as_slice();
         let blocks = self.kept_blocks.as_slice();
         let deliveries = Deliveries {
@@ -97,7 +95,7 @@ impl Deliveries<'_, '_, '_> {
             → HasCountedPlaces (reception_to self.now i) (slice_index time i) i p) }
         ensures four { IfOk result (λ p. p.doubt < 2 ^ 4) }
     {
-        deliveries_stand_in_blocks();
+        crate::blocks::laws::deliveries_stand_in_blocks();
         let next = next_of(time);
         let mut until = u32x4::splat(0);
         let mut before = u32x4::splat(0);
@@ -121,7 +119,7 @@ impl Deliveries<'_, '_, '_> {
         ensures each { OnOk result ((i : ℕ) → i < 4 → KnowsImages self.now i
             → AreImagesOf (reception_to self.now i) copy i self.now.key_places.now.blocks.items images.new.items) }
     {
-        images_are_below_never();
+        crate::blocks::laws::images_are_below_never();
         let Kept {
             images: kept,
             blocks,

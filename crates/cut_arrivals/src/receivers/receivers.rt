@@ -7,8 +7,6 @@ ghost use Rattle.cut_arrivals.specs.receivers.inside.Times.{AreReportedAt, AreSt
 use crate::receivers::Trial;
 use crate::receivers::images::Images;
 use crate::receivers::lanes::rows_of;
-use crate::proposals::laws::receivers_end_alike;
-use crate::blocks::laws::{deliveries_stand_in_blocks, images_are_below_never};
 use crate::blocks::least_of;
 use crate::lanes::{ProposalTime, compute_proposal_time};
 use std::alloc::{AllocError, Global};
@@ -80,8 +78,8 @@ impl Receivers {
         ensures { OnOk result ((i : ℕ) → i < 4 → HasReceived (reception_of trial.entry (slice_index receivers i))
             (subjects_of trial.entry.candidates.now.candidates.items) i self.new) }
     {
-        deliveries_stand_in_blocks();
-        images_are_below_never();
+        crate::blocks::laws::deliveries_stand_in_blocks();
+        crate::blocks::laws::images_are_below_never();
         self.keep(trial, receivers)?;
         let kept = self.kept.as_slice();
         let blocks = self.kept_blocks.len();
@@ -120,7 +118,7 @@ impl Receivers {
             receivers,
             drawn: self.images.as_slice(),
         };
-        receivers_end_alike();
+        crate::proposals::laws::receivers_end_alike();
         rank(&images, &mut self.values, &mut self.reported_at, &mut self.stable_at);
         gain(
             &images,

@@ -11,7 +11,7 @@ ghost use Rattle.cut_arrivals.specs.receivers.inside.Times.{time_of_cause};
 
 use crate::receivers::images::Images;
 use crate::receivers::lanes::earlier;
-use crate::proposals::laws::{few_values_give_lows_and_highs, images_stand_in_blocks};
+use crate::proposals::laws;
 use crate::blocks::NEVER;
 use cut_detector::Rule;
 use crate::lanes::select;
@@ -29,8 +29,8 @@ impl Images<'_> {
         ensures high { candidate.now.gains ≡ false → IsHigh self.now candidate.now.subject result.1 }
         ensures capacity { vec_capacity values.new ≡ vec_capacity values.old }
     {
-        images_stand_in_blocks();
-        few_values_give_lows_and_highs();
+        laws::images_stand_in_blocks();
+        laws::few_values_give_lows_and_highs();
         self.gather(values, candidate.heard.as_slice());
         ranks(self.trial.rule, values.as_slice())
     }
@@ -50,8 +50,8 @@ impl Images<'_> {
         ensures high { IsHigh self.now candidate.now.subject result }
         ensures capacity { vec_capacity values.new ≡ vec_capacity values.old }
     {
-        images_stand_in_blocks();
-        few_values_give_lows_and_highs();
+        laws::images_stand_in_blocks();
+        laws::few_values_give_lows_and_highs();
         self.gather_counted(values, reported_at, low, candidate);
         let (_, high) = ranks(self.trial.rule, values.as_slice());
         high

@@ -11,7 +11,8 @@ ghost use Rattle.cut_shares.specs.join.inside.Merging.{AreAscending, IsSmall, ad
 use crate::join::JoinFault;
 use cut_ledger::{Ledger, Slip, SlipsFault};
 use cut_outcome::Piece;
-use cut_plan::{Plan, plans_are_accepted};
+use cut_plan::Plan;
+use cut_plan::laws;
 use std::alloc::{AllocError, Global};
 
 /// The slips of a plan, joined, if a ledger can begin with them.
@@ -20,7 +21,7 @@ pub(crate) fn joined(alloc: Global, plan: &Plan, slips: &[Slip]) -> Result<Vec<S
     ensures good { IfOk result (λ found. AreGood plan.now found.items) }
     ensures judged { IsJudgedBy result plan.now slips.now }
 {
-    plans_are_accepted(plan);
+    laws::plans_are_accepted(plan);
     judge(alloc, plan, slips)?;
     let ascending = ascending(alloc, slips)?;
     Ok(merged(alloc, plan, &ascending)?)
@@ -91,7 +92,7 @@ fn with_next(plan: &Plan, slip: Slip, next: Slip) -> Slip
     requires adjoins { IsTrue (adjoins plan.now slip.piece next.piece) }
     ensures { result ≡ with_next slip next }
 {
-    plans_are_accepted(plan);
+    laws::plans_are_accepted(plan);
     Slip {
         piece: Piece {
             first: slip.piece.first,

@@ -3,7 +3,6 @@
 ghost use Rattle.cut_shares.specs.join.Laws.{JoinedAreApart, JoinedAreGood, JoinedAreTrue, JoinedGiveThePlansTable};
 ghost use Rattle.cut_shares.specs.join.Laws.{JoinedGiveTheTable, JoinedHaveTheTrials};
 
-use cut_ledger::laws::true_slips_give_the_table;
 
 /// Joining slips with which a ledger can begin keeps their trials, and a ledger can begin with the joined slips. No two
 /// of these can be joined further.
@@ -20,5 +19,5 @@ pub fn joined_slips_give_the_same_table()
     ensures table { JoinedGiveTheTable }
     ensures whole { JoinedGiveThePlansTable }
 {
-    true_slips_give_the_table();
+    cut_ledger::laws::true_slips_give_the_table();
 }

@@ -5,7 +5,8 @@ ghost use Rattle.cut_shares.specs.share.inside.PieceParts.{IsRest};
 
 use crate::share::Share;
 use cut_outcome::Piece;
-use cut_plan::{Plan, plans_are_accepted};
+use cut_plan::Plan;
+use cut_plan::laws;
 
 /// An iterator over the pieces of a share within pieces of its plan: what is left of the current one, and those after
 /// it.
@@ -35,7 +36,7 @@ impl<'a> SharePieces<'a> {
         ensures times { (t : ℕ) → own_times share plan.now (result.rest ∷ result.later.now) t
             ≡ own_times share plan.now pieces.now t }
     {
-        plans_are_accepted(plan);
+        laws::plans_are_accepted(plan);
         let rest = Piece { first: 0, count: 0 };
         SharePieces {
             plan,

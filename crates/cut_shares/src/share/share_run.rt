@@ -13,7 +13,7 @@ use crate::share::env::ShareEnv;
 use crate::share::{Share, ShareFault};
 use cut_disks::Disk;
 use cut_journal::Journal;
-use cut_ledger::laws::gaps_are_what_is_not_held;
+use cut_ledger::laws;
 use cut_ledger::{Ledger, Slip, SlipsFault};
 use cut_outcome::{Gate, Piece};
 use cut_plan::Plan;
@@ -70,7 +70,7 @@ impl<G: Gate + Sync> ShareRun<'_, G> {
         if !journal.plan().same(self.plan) {
             return Err(ShareFault::OtherPlan);
         }
-        gaps_are_what_is_not_held();
+        laws::gaps_are_what_is_not_held();
         let gaps = gaps_over(alloc, self.plan, self.slips)?;
         let rings = Rings::hashed(alloc, self.plan)?;
         let mut tasks = new_tasks(alloc, PIECES_A_WORKER * self.workers as usize)?;
