@@ -232,7 +232,7 @@ module _ (n count last : ℕ) (low high tau : ℕ → ℕ) (reported_at stable_a
       let at_first : get_or reported_at at.0 0 ≡ first = get_or_default reported_at at.0 0 first at.1 ∙ at.2 in
       let s = at_place at.0 at.1 in
       let ended : get_or stable_at at.0 0 ≤ time = closed.proposal_time.enough.begun at.0 at.1
-          (omega (arith, at_first)) in
+      (omega (arith, at_first)) in
       (s.0, s.1, before_turn ends (high s.0) (times.within s.0 s.1) (omega (arith, ended, s.2.high_is)))
 
   -- and so has each that begins by then

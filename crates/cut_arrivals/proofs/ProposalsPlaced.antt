@@ -89,7 +89,7 @@ closes_at_place below x last reported_at stable_at first time is wide closed alo
     (λ m found ms.
     let at = first_is_place x is m found in
     let stands_for = first_settled n count last (low_places x) (high_places x) tau reported_at stable_at first time
-        rising times
+    rising times
     moved m found in
     let image : image_of x at.0 ≡ time = sym (to_image_is x last below wide at.0 at.1) ∙ ap tau at.2 ∙ stands_for.1 in
     ap (proposed ms) (sym at.2 ∙ place_counted x at.0 time at.1 image alone))

@@ -7,10 +7,10 @@
 
 mod candidate;
 mod candidates;
+mod key_places;
 mod reported;
 mod runs;
-mod key_places;
 
-pub use candidate::{Cause, Candidate};
+pub use candidate::{Candidate, Cause};
 pub use candidates::Candidates;
 pub use key_places::{KeyPlace, KeyPlaces};

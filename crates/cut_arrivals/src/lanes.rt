@@ -5,10 +5,10 @@
 //! [`compute_proposal_time`] the time by which each process that began before it has ended, and whether equal images
 //! leave that in doubt.
 
-mod proposal_time;
 mod lanes;
+mod proposal_time;
 mod ranks;
 
-pub use proposal_time::{ProposalTime, compute_proposal_time};
 pub use lanes::ordered;
+pub use proposal_time::{ProposalTime, compute_proposal_time};
 pub use ranks::select;

@@ -5,9 +5,9 @@
 //! that in doubt, the lane says so, and its caller replays that receiver's deliveries by whole keys.
 
 mod deliveries;
-mod lane_verdict;
 mod gathered;
 mod images;
+mod lane_verdict;
 mod lanes;
 mod places;
 mod receivers;

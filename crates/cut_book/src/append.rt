@@ -8,8 +8,7 @@ ghost use Rattle.cut_book.specs.Book.{LeavesResumed, IsAsKnown};
 ghost use Rattle.cut_book.specs.History.{event_of};
 
 use cut_disks::{Disk, DiskFault};
-use cut_journal::Journal;
-use cut_journal::laws;
+use cut_journal::{Journal, laws};
 use cut_outcome::PieceResult;
 
 /// Appends the slip of a result to a journal, if there is one. Fails if the disk does.

@@ -30,13 +30,12 @@ ghost use Rattle.cut_book.specs.Book.{IsAsKnown};
 
 use crate::append::append;
 use crate::{Answer, BookFault, Call, History};
-use cut_sets::bits::BitList;
 use cut_disks::Disk;
-use cut_journal::Journal;
-use cut_journal::laws;
+use cut_journal::{Journal, laws};
 use cut_ledger::{Division, Ledger, OfferFault, Slip, slip_of};
 use cut_outcome::{Piece, PieceResult};
 use cut_plan::Plan;
+use cut_sets::bits::BitList;
 use cut_table::{RowFault, row};
 use std::alloc::Global;
 use std::marker::Model;

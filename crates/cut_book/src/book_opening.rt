@@ -11,8 +11,7 @@ ghost use Rattle.cut_book.specs.inside.Shelf.{KeepsBook};
 use crate::{Book, Shelf, SubmitFault};
 use cut_disks::Disk;
 use cut_journal::{Journal, JournalFault};
-use cut_ledger::Slip;
-use cut_ledger::laws;
+use cut_ledger::{Slip, laws};
 use cut_plan::Plan;
 use std::alloc::Global;
 

@@ -6,8 +6,7 @@ ghost use Rattle.cut_book.specs.inside.HistoryInside.{lost_call};
 ghost use Rattle.cut_book.specs.declared.call.Call.TheVariants as call;
 
 use crate::{Answer, Call};
-use cut_ledger::laws;
-use cut_ledger::{Base, Ledger};
+use cut_ledger::{Base, Ledger, laws};
 use cut_plan::Plan;
 use std::alloc::{AllocError, Global};
 use std::marker::Model;

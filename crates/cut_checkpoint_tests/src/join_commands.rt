@@ -4,12 +4,12 @@
 use cut_commands::CliFault;
 use cut_disks::{FaultyDisk, Tear};
 use cut_files::{MemoryFiles, SystemFiles};
-use cut_shares::join::join as join_slips;
 use cut_journal::Journal;
 use cut_ledger::Slip;
 use cut_machines::{Joined, JoinedFiles, join};
 use cut_outcome::{Piece, Totals};
 use cut_plan::Plan;
+use cut_shares::join::join as join_slips;
 use cut_wires::MemoryWire;
 use std::alloc::{AllocError, Global};
 use std::fs;

@@ -1,8 +1,8 @@
 //! The command line of the program: what its words ask for, and what is wrong with them, as clap says it.
 #![tactic(auto)]
 
-pub mod options;
 mod line;
 mod machines;
+pub mod options;
 
 pub use line::{Job, LineFault, parse_line};

@@ -7,11 +7,11 @@ ghost use Rattle.cut_command_line.specs.Line.{NamesJob, status_of_kind};
 ghost use Rattle.cut_command_line.specs.declared.line.Job.{Job};
 
 use crate::machines::{TOO_MANY_FILES, WRONG_SHARE, join_job, share_job};
-use clap::error::ErrorKind;
-use clap::{ArgMatches, Command, Error};
 use crate::options::{
     JOIN_USAGE, LARGEST_PIECE, MOST_OF_EACH, MOST_WORKERS, SHARE_USAGE, program_commands,
 };
+use clap::error::ErrorKind;
+use clap::{ArgMatches, Command, Error};
 use std::alloc::{AllocError, Global};
 use std::convert::AsStr;
 

@@ -7,8 +7,8 @@ ghost use Rattle.cut_command_line.specs.inside.Line.{GivesJob};
 
 use crate::Job;
 use crate::line::{flag_given, number_given, plan_given};
-use clap::ArgMatches;
 use crate::options::{LARGEST_PIECE, MOST_CHECKPOINTS, MOST_SHARES, MOST_WORKERS};
+use clap::ArgMatches;
 use std::alloc::{AllocError, Global};
 
 /// What is reported of a word that is not a share.

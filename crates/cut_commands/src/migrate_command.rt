@@ -210,7 +210,12 @@ fn move_slips<N: Disk + Drop>(alloc: Global, plan: &Plan, slips: &[Slip], disk: 
 }
 
 /// Moves slips to a journal of the plan's upgrade that has none yet.
-fn fill_journal<N: Disk>(alloc: Global, plan: &Plan, slips: &[Slip], journal: Journal<N>) -> Filled<N>
+fn fill_journal<N: Disk>(
+    alloc: Global,
+    plan: &Plan,
+    slips: &[Slip],
+    journal: Journal<N>,
+) -> Filled<N>
     requires new { IsNewJournal (upgraded plan.now) journal }
     ensures { Fills result.count plan.now slips.now (N.log journal.disk) (N.log result.disk) }
 {

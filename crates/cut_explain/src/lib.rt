@@ -8,9 +8,9 @@
 //! say what they are.
 #![tactic(auto)]
 
-pub mod findings;
 mod estimates;
 mod explanations;
+pub mod findings;
 
 pub use estimates::{Estimate, estimate_study};
 pub use explanations::{Explanation, explain};

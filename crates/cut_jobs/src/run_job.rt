@@ -8,7 +8,7 @@ use crate::share_job::ShareJob;
 use crate::study_job::StudyJob;
 use cut_commands::CliFault;
 use cut_files::Files;
-use cut_hall::{Gate, OpenGate};
+use cut_outcome::{Gate, OpenGate};
 use cut_progress::{Progress, report_while};
 use cut_wires::Wire;
 use std::sync::Wait;

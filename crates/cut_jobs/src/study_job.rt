@@ -5,7 +5,7 @@ ghost use Rattle.cut_jobs.specs.Jobs.{EndsRun};
 use crate::jobs::System;
 use cut_commands::{CliFault, KeptWork, PlanSource, Study, Work, run, run_from};
 use cut_files::Files;
-use cut_hall::Gate;
+use cut_outcome::Gate;
 use cut_wires::Wire;
 use std::sync::Wait;
 use std::thread::Threads;

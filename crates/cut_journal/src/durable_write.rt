@@ -3,8 +3,7 @@ ghost use Rattle.cut_faults.specs.Failures.{counted};
 ghost use Rattle.cut_disks.specs.Log.{Goes, Knows};
 ghost use Rattle.cut_journal.specs.inside.Steps.{WritesThrough};
 
-use cut_disks::laws;
-use cut_disks::{Disk, DiskFault};
+use cut_disks::{Disk, DiskFault, laws};
 
 /// Writes bytes at a place and makes them durable.
 pub(crate) fn write_through<D: Disk>(disk: &mut D, at: u64, put: &[u8]) -> Result<(), DiskFault>

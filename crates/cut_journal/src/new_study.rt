@@ -10,8 +10,7 @@ use crate::JournalFault;
 use crate::durable_write::write_through;
 use crate::first_look::look_first;
 use crate::format::{CLOSED_GATE, FileHeader, OPEN_GATE};
-use cut_disks::laws;
-use cut_disks::{Disk, DiskFault};
+use cut_disks::{Disk, DiskFault, laws};
 use std::alloc::Global;
 
 /// Makes a disk hold a study without slips, unless it holds a study already.

@@ -9,8 +9,7 @@ ghost use Rattle.cut_journal.specs.inside.Places.{gate_place};
 
 use crate::durable_write::write_through;
 use crate::format::{FileHeader, Gate, OPEN_GATE};
-use cut_disks::laws;
-use cut_disks::{Disk, DiskFault};
+use cut_disks::{Disk, DiskFault, laws};
 use cut_ledger::Slip;
 
 /// A slip that is to be kept, and the gate of the study that it is written after.

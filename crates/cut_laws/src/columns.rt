@@ -16,7 +16,6 @@ ghost use Rattle.cut_laws.specs.Columns.{
   NoTargetsLeaveNoConflictsInSums,
 };
 
-
 /// A quorum is all N processes, failed ones included, less a quarter of N - 1, rounded down. So if more than that
 /// quarter fail or are silent, no trial is decided, whatever K, H and L are.
 pub fn too_few_voters_decide_nothing()

@@ -6,7 +6,6 @@ ghost use Rattle.cut_laws.specs.Conflicts.{
   ReversesHaveDualWatermarks,
 };
 
-
 /// A proposal lacks a target exactly where, after some number of deliveries, some process is stable, none is
 /// unstable, and some target isn't stable. It need not be asked which number is the least, since alerts only add to
 /// what is stable. So the share of all orders that end in a conflict is the share that have such a beginning.

@@ -8,7 +8,6 @@ ghost use Rattle.cut_laws.specs.Ends.{
   SettledEndsLeaveNoneSilent,
 };
 
-
 /// Alerts only add to what is stable. So no receiver proposes a process that isn't stable once all alerts have come,
 /// and if a target isn't, as one whose observers have mostly crashed and are silent, every receiver that proposes is a
 /// conflict.

@@ -2,7 +2,6 @@
 
 ghost use Rattle.cut_laws.specs.OtherWatermarks.{AHigherHWaitsLonger, ALowerLWaitsLonger, LongerWaitsAddUp};
 
-
 /// Two plans that differ in their one H alone have the same trials. With the higher H each receiver waits longer: no
 /// fewer are silent, no more are a conflict, and who proposes does so no sooner, of no fewer processes. So in each
 /// line of the two tables conflicts only fall and silences only grow.

@@ -12,7 +12,6 @@ ghost use Rattle.cut_ledger.specs.declared.event.Event.{Event};
 ghost use Rattle.cut_ledger.specs.Machine.{start};
 ghost use Rattle.cut_ledger.specs.World.{begun, run, HasTrueResult, IsRight, SayAlike};
 
-
 /// The gaps, and the pieces of any size that they are cut into, have exactly the trials that are not held,
 /// each of them once.
 pub fn gaps_are_what_is_not_held()

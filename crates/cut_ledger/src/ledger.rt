@@ -15,8 +15,7 @@ use crate::held_trials::{HeldTrials, is_good, pieces_at, span_of_cell};
 use crate::{Base, Division, OfferFault, Slip, SlipsFault};
 use cut_outcome::{Piece, PieceResult, Totals};
 use cut_plan::Plan;
-use cut_sets::ranges::Span;
-use cut_sets::ranges::laws;
+use cut_sets::ranges::{Span, laws};
 use std::alloc::{AllocError, Global};
 use std::marker::Model;
 
@@ -48,7 +47,11 @@ impl Ledger {
     {
         let held_trials = HeldTrials::none(alloc, &plan)?;
         let base = Base::from_vec(Vec::new(alloc));
-        Ok(Ledger { plan, base, held_trials })
+        Ok(Ledger {
+            plan,
+            base,
+            held_trials,
+        })
     }
 
     /// A ledger that holds the trials of slips, with their sums. The fault is the number of the first slip that is not
@@ -61,7 +64,11 @@ impl Ledger {
         let mut held_trials = HeldTrials::none(alloc, &plan)?;
         add_slips(&mut held_trials, &plan, slips)?;
         let base = Base::from_vec(Vec::from_slice(alloc, slips)?);
-        Ok(Ledger { plan, base, held_trials })
+        Ok(Ledger {
+            plan,
+            base,
+            held_trials,
+        })
     }
 
     /// The plan of the study.
@@ -99,7 +106,9 @@ impl Ledger {
         requires { cell < length (cells_of self.now.contents.plan) }
         ensures { result ≡ cell_done self.now.contents cell }
     {
-        self.held_trials.trials.covers(span_of_cell(&self.plan, cell))
+        self.held_trials
+            .trials
+            .covers(span_of_cell(&self.plan, cell))
     }
 
     /// The sums of a cell: the totals of the base's slips, and the outcome of each other held trial, once. There are
@@ -210,7 +219,8 @@ impl Ledger {
             IsOk result }
         ensures err { OnErr result (self.new ≡ self.old) }
     {
-        self.held_trials.add(&self.plan, offered.piece(), offered.totals())
+        self.held_trials
+            .add(&self.plan, offered.piece(), offered.totals())
     }
 
     /// Takes a result, or refuses it.

@@ -5,7 +5,6 @@
 //! [`laws`] say what every run keeps.
 #![tactic(auto)]
 
-pub mod lines;
 mod available;
 mod base;
 mod bytes;
@@ -14,6 +13,7 @@ mod event;
 mod held_trials;
 pub mod laws;
 mod ledger;
+pub mod lines;
 mod offer_fault;
 mod possible;
 mod run;

@@ -11,11 +11,11 @@ ghost use Rattle.cut_machines.specs.inside.JoinSources.{NamesFile, StaysOpen, cl
 use cut_commands::CliFault;
 use cut_disks::Disk;
 use cut_files::{Files, Mode};
-use cut_shares::join::{JoinFault, judge};
 use cut_journal::Journal;
 use cut_ledger::Slip;
 use cut_migration::MigrateFault;
 use cut_plan::Plan;
+use cut_shares::join::{JoinFault, judge};
 use std::alloc::Global;
 
 /// Why checkpoints are not joined: the fault, and which of them is refused, from 1, if one is.

@@ -12,10 +12,10 @@ ghost use Rattle.cut_machines.specs.inside.JoinTarget.{StopsFilling};
 use crate::join_sources::cli_fault_of;
 use cut_commands::CliFault;
 use cut_disks::Disk;
-use cut_shares::join::join;
 use cut_journal::Journal;
 use cut_ledger::Slip;
 use cut_plan::Plan;
+use cut_shares::join::join;
 use std::alloc::Global;
 
 /// A disk to which joined slips were to be written, and how many there are, or why not all were written.
@@ -50,7 +50,12 @@ pub(crate) fn write_joined<N: Disk + Drop>(
 }
 
 /// Writes slips, joined, to a journal of their plan that has none yet.
-fn fill_journal<N: Disk>(alloc: Global, plan: &Plan, slips: &[Slip], journal: Journal<N>) -> Written<N>
+fn fill_journal<N: Disk>(
+    alloc: Global,
+    plan: &Plan,
+    slips: &[Slip],
+    journal: Journal<N>,
+) -> Written<N>
     requires good { AreGood plan.now slips.now }
     requires new { IsNewJournal plan.now journal }
     ensures part { IsKnown (N.log journal.disk) →

@@ -3,7 +3,6 @@
 ghost use Rattle.cut_machines.specs.Laws.{CompleteSharesHaveAllTrials, FirstSlipsAreOfShare, ResumedSlipsAreOfShare};
 ghost use Rattle.cut_machines.specs.Laws.{ResumedSlipsAreWhole, SharesAreGood, SharesAreTrue, SharesGiveThePlansTable};
 
-
 /// Files of shares of one plan join to the plan's table, in any order, whatever the number of shares and the size of
 /// blocks are, and however many shares are missing or stopped early: the slips of all files are true ones, no two of
 /// which have a trial in common, and `join` takes them. If a file of each share is there and all are complete, each

@@ -7,13 +7,17 @@ ghost use Rattle.cut_messages.specs.Frames.{frame};
 
 use crate::Kind;
 use crate::prefix::HEAD;
-use cut_wires::{Encoding, CountingWriter, Sent, Wire};
+use cut_wires::{CountingWriter, Encoding, Sent, Wire};
 
 /// The most bytes of a frame that is handed to the wire by one write.
 const BUFFER: usize = 512;
 
 /// Sends a message by a counting writer. A message of at most 512 bytes is handed to the wire by one write.
-pub fn send_message<W: Wire>(writer: &mut CountingWriter<'_, W>, kind: Kind, payload: &[u8]) -> Result<(), Sent>
+pub fn send_message<W: Wire>(
+    writer: &mut CountingWriter<'_, W>,
+    kind: Kind,
+    payload: &[u8],
+) -> Result<(), Sent>
     requires { length payload.now ≤ LONGEST_PAYLOAD }
     ensures { Sends result (frame kind payload.now) (sending W.log writer.old) (sending W.log writer.new) }
 {
@@ -26,7 +30,11 @@ pub fn send_message<W: Wire>(writer: &mut CountingWriter<'_, W>, kind: Kind, pay
 }
 
 /// Sends the same by one write for what precedes the payload, and others for the payload.
-fn send_parts<W: Wire>(writer: &mut CountingWriter<'_, W>, kind: Kind, payload: &[u8]) -> Result<(), Sent>
+fn send_parts<W: Wire>(
+    writer: &mut CountingWriter<'_, W>,
+    kind: Kind,
+    payload: &[u8],
+) -> Result<(), Sent>
     requires { length payload.now ≤ LONGEST_PAYLOAD }
     ensures { Sends result (frame kind payload.now) (sending W.log writer.old) (sending W.log writer.new) }
 {

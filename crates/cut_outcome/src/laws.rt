@@ -28,7 +28,6 @@ ghost use Rattle.cut_outcome.specs.Laws.{
   SettledReachesLow,
 };
 
-
 /// The fast round agrees: with at most one proposal per process, two quorums have a proposal in common, so no two
 /// different proposals are both decided.
 pub fn quorums_agree()

@@ -199,7 +199,13 @@ fn closings_are_those_of_a_search(rt: HostRuntime) -> Result<(), Fail> {
             let stable_at = drawn_stable_at(alloc, &mut words, reported_at.as_slice(), bound)?;
             let proposal_time = compute_proposal_time(reported_at.as_slice(), stable_at.as_slice());
             for lane in 0..4 {
-                let right = is_right(alloc, reported_at.as_slice(), stable_at.as_slice(), &proposal_time, lane)?;
+                let right = is_right(
+                    alloc,
+                    reported_at.as_slice(),
+                    stable_at.as_slice(),
+                    &proposal_time,
+                    lane,
+                )?;
                 assert!(rt; right, "{number} {bound} {lane}");
             }
         }

@@ -43,8 +43,12 @@ fn a_peer_in_memory_is_one_at_a_time(rt: HostRuntime) -> Result<(), Fail> {
     let Ok(wire) = sockets.connect("here") else {
         return Err(Fail::new("the peer was not connected to"));
     };
-    assert!(rt; is_refused(&mut sockets, "here") && sockets.wire("here").is_none());
-    sockets.hang_up("here", wire);
+    let is_busy = sockets.wire("here").is_none();
+    match sockets.connect("here") {
+        Ok(_second) => return Err(Fail::new("the peer was connected to twice")),
+        Err(_) => sockets.hang_up("here", wire),
+    }
+    assert!(rt; is_busy);
     assert!(rt; writes(&mut sockets, "here"));
     assert!(rt; sockets.wire("here").map(|wire| wire.taken()) == Some(b"abab".as_slice()));
     Ok(())

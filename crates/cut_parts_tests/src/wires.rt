@@ -1,8 +1,8 @@
 ghost use Rattle.std.specs.Prelude.{[], ◌∷◌};
 
 use cut_wires::{
-    FaultyWire, CountingWriter, MemoryWire, PlainRows, RowSource, RowsFault, Sent, StreamWire, Wire, send_all,
-    send_rows,
+    CountingWriter, FaultyWire, MemoryWire, PlainRows, RowSource, RowsFault, Sent, StreamWire,
+    Wire, send_all, send_rows,
 };
 use std::alloc::Global;
 use std::test::Fail;
@@ -88,7 +88,12 @@ fn a_wire_of_streams_moves_bytes(rt: HostRuntime) {
 }
 
 /// Whether a counting writer sends these bytes, or fails after some if a fault is to come, and has sent this many then.
-fn sends<W: Wire>(writer: &mut CountingWriter<'_, W>, bytes: &[u8], end: Result<(), Sent>, sent: u64) -> bool {
+fn sends<W: Wire>(
+    writer: &mut CountingWriter<'_, W>,
+    bytes: &[u8],
+    end: Result<(), Sent>,
+    sent: u64,
+) -> bool {
     writer.send(bytes) == end && writer.sent() == sent
 }
 

@@ -262,13 +262,7 @@ where
 
 /// Lets each pass work on the pieces of the first study, in a thread of its own where one can be made, until none
 /// are left to be drawn. Where memory is refused the passes are gone, and the thread that writes does their work.
-fn work_off_all<S, G, R>(
-    rt: &R,
-    alloc: Global,
-    hall: &S,
-    gate: &G,
-    passes: &mut Vec<Pass<S::Made>>,
-)
+fn work_off_all<S, G, R>(rt: &R, alloc: Global, hall: &S, gate: &G, passes: &mut Vec<Pass<S::Made>>)
 where
     S: Workplace + Sync,
     G: Gate + Sync,

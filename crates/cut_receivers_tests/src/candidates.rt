@@ -1,7 +1,7 @@
 //! Candidates beside a recount of the same alerts, and key places beside ones that were written by hand.
 
+use cut_arrivals::candidates::{Candidate, Candidates, Cause, KeyPlace, KeyPlaces};
 use cut_detector::Rule;
-use cut_arrivals::candidates::{Cause, Candidate, Candidates, KeyPlace, KeyPlaces};
 use cut_rings::{Edge, Rings, RingsFault};
 use std::alloc::{AllocError, Global};
 use std::test::Fail;
@@ -104,7 +104,11 @@ fn full_rings(rule: Rule, subject: u16) -> usize {
 /// The number of the key that a key place names.
 fn number(blocks: &[u32], key_place: KeyPlace) -> Option<u32> {
     let block = blocks.get(usize::from(key_place.block))?;
-    Some(block.saturating_mul(8).saturating_add(u32::from(key_place.key)))
+    Some(
+        block
+            .saturating_mul(8)
+            .saturating_add(u32::from(key_place.key)),
+    )
 }
 
 /// Whether a key place is there if its ring is alerted, and is that of the ring's edge.
@@ -121,7 +125,10 @@ fn is_key_place(blocks: &[u32], key_place: Option<KeyPlace>, subject: u16, ring:
 /// Whether a cause is that of a ring.
 fn is_cause(candidates: &Candidates, cause: &Cause, rule: Rule, subject: u16, ring: u8) -> bool {
     let observer = match cause.gained {
-        Some(place) => candidates.candidates.get(usize::from(place)).map(|candidate| candidate.subject),
+        Some(place) => candidates
+            .candidates
+            .get(usize::from(place))
+            .map(|candidate| candidate.subject),
         None => None,
     };
     is_key_place(candidates.blocks.as_slice(), cause.heard, subject, ring)
@@ -139,7 +146,9 @@ fn is_candidate(candidates: &Candidates, candidate: &Candidate, rule: Rule) -> b
         gains = gains || is_gained;
         if is_alerted(subject, ring) {
             let key_place = heard.next().copied();
-            if key_place.is_none() || !is_key_place(candidates.blocks.as_slice(), key_place, subject, ring) {
+            if key_place.is_none()
+                || !is_key_place(candidates.blocks.as_slice(), key_place, subject, ring)
+            {
                 return false;
             }
         }
@@ -161,7 +170,8 @@ fn are_recounted(candidates: &Candidates, rule: Rule) -> bool {
             continue;
         }
         match left.next() {
-            Some(candidate) if candidate.subject == subject && is_candidate(candidates, candidate, rule) => {}
+            Some(candidate)
+                if candidate.subject == subject && is_candidate(candidates, candidate, rule) => {}
             _ => return false,
         }
     }

@@ -4,8 +4,8 @@ ghost use Rattle.std.specs.Prelude.{◌<◌, length, All};
 use crate::lanes::places_of;
 use crate::setting::{SEED, Scene, Setting};
 use cut_arrivals::blocks::Blocks;
-use cut_detector::Rule;
 use cut_arrivals::receivers::{Places, Receivers};
+use cut_detector::Rule;
 use std::alloc::{AllocError, Global};
 use std::process::Abort;
 use std::test::Fail;
@@ -32,10 +32,12 @@ fn are_kept(
     kept.receive_copies(scene.trial, receivers)?;
     let places = kept.places(scene.trial, receivers, scene.key_places)?;
     let again = kept.places(scene.trial, receivers, scene.key_places)?;
-    Ok(are_same(&places, &wanted)
-        && are_same(&again, &wanted)
-        && kept.proposal_time.time.to_array() == drawn.proposal_time.time.to_array()
-        && kept.proposal_time.doubt == drawn.proposal_time.doubt)
+    Ok(
+        are_same(&places, &wanted)
+            && are_same(&again, &wanted)
+            && kept.proposal_time.time.to_array() == drawn.proposal_time.time.to_array()
+            && kept.proposal_time.doubt == drawn.proposal_time.doubt,
+    )
 }
 
 /// How many of a drawn trial's receivers were heard both ways, with the same result.

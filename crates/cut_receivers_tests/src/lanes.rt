@@ -4,9 +4,9 @@ ghost use Rattle.std.specs.Prelude.{◌<◌, length, All};
 use crate::replays::replayed;
 use crate::setting::{SEED, Scene, Setting};
 use cut_arrivals::blocks::Blocks;
+use cut_arrivals::receivers::{LaneVerdict, LaneVerdicts, Places, Receivers};
 use cut_detector::{Proposal, Rule};
 use cut_draws::Draws;
-use cut_arrivals::receivers::{LaneVerdict, LaneVerdicts, Places, Receivers};
 use std::alloc::{AllocError, Global};
 use std::process::Abort;
 use std::test::Fail;
@@ -72,7 +72,10 @@ impl Wanted {
         let mut draws = Draws::new(SEED, scene.number);
         let members = match replayed(alloc, scene, &mut draws, 0)? {
             Some(proposal) => proposal.members.into_vec(),
-            None => candidates.iter().map(|candidate| candidate.subject).collect(alloc)?,
+            None => candidates
+                .iter()
+                .map(|candidate| candidate.subject)
+                .collect(alloc)?,
         };
         let flags = candidates
             .iter()

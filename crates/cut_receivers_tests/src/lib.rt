@@ -7,6 +7,8 @@
 #![tactic(auto)]
 
 #[cfg(test)]
+mod candidates;
+#[cfg(test)]
 mod copies;
 #[cfg(test)]
 mod drawn;
@@ -14,8 +16,6 @@ mod drawn;
 mod edges;
 #[cfg(test)]
 mod lanes;
-#[cfg(test)]
-mod candidates;
 #[cfg(test)]
 mod refused_memory;
 #[cfg(test)]

@@ -4,8 +4,8 @@
 use crate::lanes::{Wanted, found_as_replayed};
 use crate::setting::{SEED, Setting};
 use cut_arrivals::blocks::Blocks;
-use cut_detector::Rule;
 use cut_arrivals::receivers::Receivers;
+use cut_detector::Rule;
 use std::alloc::Global;
 use std::process::Abort;
 use std::test::Fail;

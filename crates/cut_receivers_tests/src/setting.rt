@@ -11,9 +11,9 @@ ghost use Rattle.cut_arrivals.specs.candidates.KeyPlaces.{AreKeyPlaces};
 use crate::drawn::{drawn_rings, drawn_roles};
 use cut_alerts::{Roles, alerts};
 use cut_arrivals::blocks::Blocks;
-use cut_detector::Rule;
 use cut_arrivals::candidates::{Candidates, KeyPlaces};
 use cut_arrivals::receivers::Trial;
+use cut_detector::Rule;
 use cut_rings::{Edge, Rings};
 use rand_chacha::ChaCha8Rng;
 use rand_core::SeedableRng;
@@ -39,8 +39,7 @@ pub(crate) struct Setting {
     ghost inside: { (n : ℕ) → rings.nodes ≤ n → IsTrue (are_edges_of rule.k n edges.items) },
     ghost distinct: { IsTrue (are_distinct rule.k edges.items) },
     ghost few: { length edges.items ≤ 2 ^ 16 },
-    ghost key_places_are: { AreKeyPlaces rule.k key_places.blocks.items edges.items key_places.key_places.items }
-        by { Prim.hlevel props },
+    ghost key_places_are: { AreKeyPlaces rule.k key_places.blocks.items edges.items key_places.key_places.items } by { Prim.hlevel props },
     ghost blocks: { All (λ block. block < 2 ^ 13) key_places.blocks.items },
 }
 

@@ -24,7 +24,7 @@ use Rattle.cut_session.specs.Session.{passed, read_by}
 use Rattle.cut_session.specs.Session.{CutsReply, EndsSessionAs}
 use Rattle.cut_session.specs.inside.Serving.{Replies, ServesFirst, ServesAll, LeavesSending, ConcludesTable, IsServing, served}
 use Rattle.cut_session.specs.inside.Serving.{longest_reply}
-use Rattle.cut_session.proofs.Courses.{Stands, leaves, served_more}
+use Rattle.cut_session.proofs.SessionTraces.{Stands, leaves, served_more}
 use Rattle.cut_session.proofs.Turns.{all_then}
 
 -- what comes after a message that quits changes nothing
@@ -38,16 +38,16 @@ module _ {hall : HallValue} {low middle : View} {r next : Reading} {requests : �
     (read : HasReadFrames next (s.stream ++ piece) (s.messages ++ more)) (side : next.side ≡ r.side)
     (same : shown ≡ more)
     (few : requests + count ≤ request_limit) (within : count ≤ length shown) (none_sent : first.sent ≡ 0) where
-  -- the line with some more bytes
+  -- the writer with some more bytes
   fed_line : (bytes : List ℕ) (new : Sending) → new ≡ sent_on now bytes
       → new ≡ served first (s.out ++ bytes) ((s.stream ++ piece) ++ [])
   fed_line bytes new is =
       cc (is, served_more first now s.out (s.stream ++ piece) bytes s.line, append-nil (s.stream ++ piece))
 
   module _ (f : ServesFirst hall middle high (take count shown)) where
-    -- its course
-    abbrev fed_course : SessionTrace
-    fed_course = record {
+    -- its trace
+    abbrev fed_trace : SessionTrace
+    fed_trace = record {
       stream = s.stream ++ piece;
       answered = s.messages ++ f.answered;
       unanswered = f.unanswered ++ drop count shown;
@@ -66,8 +66,8 @@ module _ {hall : HallValue} {low middle : View} {r next : Reading} {requests : �
         let parts = ap (λ (l : List Message). length l) f.parts in
         omega (arith, length-take-le count shown within, length-append f.answered f.unanswered)
 
-    is_fed_course : IsSessionTrace hall low high fed_course
-    is_fed_course = record {
+    is_fed_trace : IsSessionTrace hall low high fed_trace
+    is_fed_trace = record {
       splits = rw (← fed_parts) (rw (side ∙ s.side) at read.splits);
       few = omega (arith, fed_count, s.many, length-append s.messages f.answered);
       replies = all_then hall low middle high s.messages f.answered s.out f.out s.replies f.replies;
@@ -82,13 +82,13 @@ module _ {hall : HallValue} {low middle : View} {r next : Reading} {requests : �
     fed_quits new is quits =
         let line = fed_line f.out new is in
         let more_quits = quits_more f.unanswered (drop count shown) quits in
-        let ends : EndsSessionAs hall low high end.Quit fed_course first.log new.log = (
+        let ends : EndsSessionAs hall low high end.Quit fed_trace first.log new.log = (
           more_quits.0,
           omega (arith, more_quits.1, fed_count, s.many, length-append s.messages f.answered),
           refl,
           ap (λ (t : Sending). t.log) line,
         ) in
-        ((fed_course, is_fed_course, ends), ap (λ (t : Sending). t.wire) line)
+        ((fed_trace, is_fed_trace, ends), ap (λ (t : Sending). t.wire) line)
 
     -- a write of the last reply fails
     fed_cut : (fault : Sent) (new : Sending) → (l : LastReply hall middle high f.answered f.out)
@@ -109,7 +109,7 @@ module _ {hall : HallValue} {low middle : View} {r next : Reading} {requests : �
           ap (λ (t : Sending). t.sent) line,
           length-append before (take k l.reply),
           fed_short,
-          is_fed_course.few,
+          is_fed_trace.few,
         ) in
         let part : before ++ take k l.reply ≡ take fault.sent (s.out ++ f.out) =
         cc (sum, joined, take-append-add before l.reply k) in
@@ -124,12 +124,12 @@ module _ {hall : HallValue} {low middle : View} {r next : Reading} {requests : �
           answers = l.answers;
           joined = joined;
         } in
-        let log : new.log ≡ write_failed (passed fed_course (take fault.sent (s.out ++ f.out)) first.log) =
+        let log : new.log ≡ write_failed (passed fed_trace (take fault.sent (s.out ++ f.out)) first.log) =
         ap (λ (t : Sending). t.log) is ∙ ap (λ (t : Sending). write_failed t.log) line
-        ∙ ap (λ (bytes : List ℕ). write_failed (passed fed_course bytes first.log)) part in
-        let cuts : CutsReply hall low high fault.sent fed_course first.log new.log =
+        ∙ ap (λ (bytes : List ℕ). write_failed (passed fed_trace bytes first.log)) part in
+        let cuts : CutsReply hall low high fault.sent fed_trace first.log new.log =
         (last, omega (arith, sum), omega (arith, sum, whole), refl, log) in
-        ((fed_course, is_fed_course, inl cuts), cc (is, line))
+        ((fed_trace, is_fed_trace, inl cuts), cc (is, line))
 
   -- the session ended at one of these
   pub fed_ends : (result : SessionEnd) (new : Sending)
@@ -152,14 +152,14 @@ module _ {hall : HallValue} {low middle : View} {r next : Reading} {requests : �
     }
 
     all_stands : (fault : SessionFault) → ((l : WireLog) → l ≡ read_by fault l)
-        → Stands first fault (fed_course all_first) mid
+        → Stands first fault (fed_trace all_first) mid
     all_stands fault same =
         let line = fed_line all.0 mid all.3 in
         let short = fed_short all_first in
-        let few = (is_fed_course all_first).few in
+        let few = (is_fed_trace all_first).few in
         record {
           wire = ap (λ (t : Sending). t.wire) line;
-          log = ap (λ (t : Sending). t.log) line ∙ same (passed (fed_course all_first) (s.out ++ all.0) first.log);
+          log = ap (λ (t : Sending). t.log) line ∙ same (passed (fed_trace all_first) (s.out ++ all.0) first.log);
           sent = omega (arith, ap (λ (t : Sending). t.sent) line);
           short = omega arith;
         }
@@ -171,9 +171,9 @@ module _ {hall : HallValue} {low middle : View} {r next : Reading} {requests : �
     pub fed_limit : (result : SessionEnd) (new : Sending) → requests + count ≡ request_limit → count < length shown
         → LeavesSending session.TooManyRequests result mid new → ConcludesTable hall low high result first new
     fed_limit result new limit some l =
-        let due : IsDue session.TooManyRequests (fed_course all_first) =
+        let due : IsDue session.TooManyRequests (fed_trace all_first) =
         (omega (arith, all_count), omega (arith, length-drop count shown), refl) in
-        leaves (is_fed_course all_first) due (all_stands session.TooManyRequests (λ l. refl)) result new l
+        leaves (is_fed_trace all_first) due (all_stands session.TooManyRequests (λ l. refl)) result new l
 
     -- a fault stands after them
     pub fed_fault : (fault : StreamFault) (result : SessionEnd) (new : Sending) → length shown ≤ count
@@ -181,8 +181,8 @@ module _ {hall : HallValue} {low middle : View} {r next : Reading} {requests : �
         → ConcludesTable hall low high result first new
     fed_fault fault result new none wrong l =
         let stands : fault_at Requests read.rest ≡ Some fault = cc (side, s.side, read.fault, wrong) in
-        let due : IsDue (session.Stream fault) (fed_course all_first) = ((drop_all count shown none, refl), stands) in
-        leaves (is_fed_course all_first) due (all_stands (session.Stream fault) (λ l. refl)) result new l
+        let due : IsDue (session.Stream fault) (fed_trace all_first) = ((drop_all count shown none, refl), stands) in
+        leaves (is_fed_trace all_first) due (all_stands (session.Stream fault) (λ l. refl)) result new l
 
     -- the session goes on, and has read the piece
     pub fed_on : length shown ≤ count → next.fault ≡ None → 0 < length piece

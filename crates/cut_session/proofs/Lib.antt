@@ -1,6 +1,6 @@
 pub mod Turns
 pub mod Tables
-pub mod Courses
+pub mod SessionTraces
 pub mod Failing
 pub mod Feeding
 pub mod Owned

@@ -122,7 +122,7 @@ EndsSessionAs hall low high (Fault fault) c old new =
 EndsSessionAs hall low high (Write fault) c old new =
     CutsReply hall low high fault.sent c old new ⊎ CutsEnd fault.sent c old new
 
--- of a wire of which nothing is known there is some course of which this is so
+-- of a wire of which nothing is known there is some trace of which this is so
 abbrev pub EndsSession : HallValue → View → View → SessionEnd → WireLog → WireLog → Type 0
 EndsSession hall low high end old new = (c : SessionTrace) × IsSessionTrace hall low high c
     × EndsSessionAs hall low high end c old new

@@ -95,7 +95,11 @@ where
     }
 
     /// Answers the question how many trials of a study are counted.
-    fn answer_count<W: Wire>(&mut self, writer: &mut CountingWriter<'_, W>, payload: &[u8]) -> Result<(), Sent>
+    fn answer_count<W: Wire>(
+        &mut self,
+        writer: &mut CountingWriter<'_, W>,
+        payload: &[u8],
+    ) -> Result<(), Sent>
         ensures replies { Replies (AnswersCount self.old.hall.now self.old.pass.now.view self.new.pass.now.view
             (from_be_bytes w32 payload.now)) longest_reply result (sending W.log writer.old)
             (sending W.log writer.new) }
@@ -111,7 +115,11 @@ where
     }
 
     /// Answers the text of a plan: by the table of its study as it is done, or by a fault.
-    fn answer_submit<W: Wire>(&mut self, writer: &mut CountingWriter<'_, W>, text: &[u8]) -> Result<(), Sent>
+    fn answer_submit<W: Wire>(
+        &mut self,
+        writer: &mut CountingWriter<'_, W>,
+        text: &[u8],
+    ) -> Result<(), Sent>
         ensures replies { Replies (AnswersText self.old.hall.now.is_trusted text.now) longest_reply result
             (sending W.log writer.old) (sending W.log writer.new) }
         ensures view { self.new.pass.now.view ≡ self.old.pass.now.view }

@@ -13,7 +13,7 @@ use cut_book::Opened;
 use cut_disks::Disk;
 use cut_hall::{CallLedger, Hall, NextRowFault, Pass};
 use cut_ledger::lines::header;
-use cut_messages::{Kind, FramedRows, send_message};
+use cut_messages::{FramedRows, Kind, send_message};
 use cut_plan::laws;
 use cut_wires::{CountingWriter, RowSource, RowsFault, Sent, Wire, send_rows};
 use std::alloc::Global;

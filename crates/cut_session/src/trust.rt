@@ -1,6 +1,5 @@
 ghost use Rattle.cut_session.specs.Own.{TrustedRepliesAreOwn};
 
-
 /// A client of a hall whose studies begin with true slips reads the frames of its plan's own table, line by line
 /// as the definitions give it trial by trial: all of them, or the first ones and then a fault, or a fault alone.
 ///

@@ -4,13 +4,13 @@
 
 mod append;
 mod batch;
+mod env;
 mod fault;
 pub mod laws;
+mod piece_task;
 mod share;
 mod share_pieces;
 mod share_run;
-mod piece_task;
-mod env;
 
 pub use fault::ShareFault;
 pub use share::Share;

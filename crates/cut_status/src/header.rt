@@ -9,8 +9,7 @@ ghost use Rattle.cut_status.specs.inside.Study.{IsOfNoPlan};
 
 use crate::StatusFault;
 use cut_journal::header_text;
-use cut_plan::{Plan, PlanFault};
-use cut_plan::laws;
+use cut_plan::{Plan, PlanFault, laws};
 use std::alloc::Global;
 
 /// The plan whose canonical text a header says.

@@ -2,7 +2,6 @@
 
 ghost use Rattle.cut_status.specs.Laws.{FaultsAreOfOthers, StatusesAreOne};
 
-
 /// Bytes are a study of one plan at most. So they have one status at most, and if they have one no fault says anything
 /// of them but that memory ran out.
 pub fn bytes_have_one_status()

@@ -9,8 +9,7 @@ use crate::header::header_plan;
 use crate::{Status, StatusFault};
 use cut_journal::{JournalFault, KeptSlips, is_study};
 use cut_ledger::SlipTally;
-use cut_plan::Plan;
-use cut_plan::laws;
+use cut_plan::{Plan, laws};
 use std::alloc::Global;
 
 /// What the bytes of a checkpoint file say of its study: the plan is the one whose canonical text stands in the

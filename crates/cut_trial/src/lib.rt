@@ -7,13 +7,13 @@
 
 mod alerts;
 mod ballot;
-mod setup;
-mod fault;
 mod deliveries;
+mod fault;
 mod input;
-mod receiver_judge;
 mod piece;
+mod receiver_judge;
 mod replays;
+mod setup;
 mod trial;
 mod verdict_counts;
 mod verdicts;

@@ -20,17 +20,17 @@ ghost use Rattle.cut_trial.specs.inside.Judging.{AreFor, AreReady, IsNext, IsPla
 ghost use Rattle.cut_trial.specs.inside.Judging.{proposals_to};
 
 use crate::alerts::Alerts;
-use crate::setup::TrialSetup;
 use crate::input::{TrialInput, rings_are_a_layout};
 use crate::replays::Replay;
+use crate::setup::TrialSetup;
 use crate::verdict_counts::VerdictCounts;
 use cut_alerts::Roles;
-use cut_arrivals::proposals::laws;
 use cut_arrivals::blocks::Blocks;
-use cut_draws::Draws;
 use cut_arrivals::candidates::{Candidates, KeyPlaces};
-use cut_plan::{Cell, Version};
+use cut_arrivals::proposals::laws;
 use cut_arrivals::receivers::{LaneVerdict, LaneVerdicts, Places, Receivers, Trial};
+use cut_draws::Draws;
+use cut_plan::{Cell, Version};
 use std::alloc::{AllocError, Global};
 
 /// Judges the receivers of a cell's trials, in memory that all trials share.
@@ -60,8 +60,7 @@ struct TrialContext<'a> {
     ghost heard: { (j : ℕ) → proposal_at (reception_of trial j) ≡ proposed_by setup.alerts.now trial.blocks.now j },
     ghost nodes: { trial.rings.now.nodes ≡ length setup.roles.now.roles },
     ghost key_places_are: { IfSome key_places
-        (λ s. AreKeyPlaces trial.rule.k s.now.blocks.items trial.edges.now s.now.key_places.items) }
-        by { Prim.hlevel props },
+        (λ s. AreKeyPlaces trial.rule.k s.now.blocks.items trial.edges.now s.now.key_places.items) } by { Prim.hlevel props },
     ghost few: { length trial.edges.now ≤ 2 ^ 16 },
     ghost unasked: { key_places ≡ None → version_of setup.alerts.now.study.plan.now.failing ≡ One },
 }
@@ -76,7 +75,11 @@ struct PlacedVerdict {
 
 impl<'a> ReceiverJudge<'a> {
     /// What judges the receivers of this cell's trials.
-    pub fn new(alloc: Global, study: TrialInput<'a>, cell: Cell) -> Result<ReceiverJudge<'a>, AllocError>
+    pub fn new(
+        alloc: Global,
+        study: TrialInput<'a>,
+        cell: Cell,
+    ) -> Result<ReceiverJudge<'a>, AllocError>
         requires { IsCellOf study.plan.now cell }
         ensures { IfOk result (λ j. AreFor study.entry cell j) }
     {
@@ -291,7 +294,12 @@ impl<'a> ReceiverJudge<'a> {
     }
 
     /// Judges a receiver by its deliveries in their order.
-    fn replay(&mut self, draws: &mut Draws, setup: TrialSetup<'_>, receiver: u16) -> Result<(), AllocError>
+    fn replay(
+        &mut self,
+        draws: &mut Draws,
+        setup: TrialSetup<'_>,
+        receiver: u16,
+    ) -> Result<(), AllocError>
         requires fit { AreFor setup.alerts.now.study setup.alerts.now.cell self.old }
         requires receiver { receiver < length setup.roles.now.roles }
         ensures judged { OnOk result ((before : List (Option proposals.Proposal)) → length before < 2 ^ 32 →
@@ -314,7 +322,11 @@ impl<'a> ReceiverJudge<'a> {
 }
 
 /// Which candidates are targets.
-fn wanted_candidates(alloc: Global, candidates: &Candidates, roles: &Roles) -> Result<Vec<bool>, AllocError>
+fn wanted_candidates(
+    alloc: Global,
+    candidates: &Candidates,
+    roles: &Roles,
+) -> Result<Vec<bool>, AllocError>
     requires { All (λ s. s < length roles.now.roles) (subjects_of candidates.now.candidates.items) }
     ensures { IfOk result (λ wanted. wanted.items ≡ map
         (λ s. is_target roles.now s) (subjects_of candidates.now.candidates.items)) }
@@ -358,7 +370,11 @@ fn receiver_at(receivers: &[u16], place: usize) -> u16
 }
 
 /// Computes the times of four receivers. If places are asked for, the images of their keys are kept for them.
-fn receive(times: &mut Receivers, context: TrialContext<'_>, receivers: [u16; 4]) -> Result<(), AllocError>
+fn receive(
+    times: &mut Receivers,
+    context: TrialContext<'_>,
+    receivers: [u16; 4],
+) -> Result<(), AllocError>
     requires { All (λ j. j < MOST_NODES) receivers }
     ensures { OnOk result ((i : ℕ) → i < 4
         → HasReceived (reception_of context.entry.trial (slice_index receivers i))

@@ -4,9 +4,9 @@ ghost use Rattle.cut_outcome.specs.Outcome.{rings_of, cell_at, outcome};
 ghost use Rattle.cut_trial.specs.inside.Judging.{AreFor};
 
 use crate::alerts::Alerts;
-use crate::setup::{TrialSetup, list_receivers, list_targets};
 use crate::input::TrialInput;
 use crate::receiver_judge::ReceiverJudge;
+use crate::setup::{TrialSetup, list_receivers, list_targets};
 use cut_alerts::Roles;
 use cut_draws::{Draws, ProcessOrder};
 use cut_outcome::Totals;
@@ -84,7 +84,12 @@ impl<'a> Trials<'a> {
             targets: self.targets.as_slice(),
             receivers: self.receivers.as_slice(),
         };
-        self.receiver_judge.judge(self.alloc, &mut draws, trial, setup)?;
-        Ok(self.receiver_judge.outcome.totals(plan, cell, setup.targets))
+        self.receiver_judge
+            .judge(self.alloc, &mut draws, trial, setup)?;
+        Ok(
+            self.receiver_judge
+                .outcome
+                .totals(plan, cell, setup.targets),
+        )
     }
 }

@@ -1,8 +1,8 @@
 //! What no clause says: the lines after the first, and how long a study is estimated to take.
 
 use crate::tables::{MISTAKES, PLAN, PLAN_2, PLANS, PLANS_2, WRONG_PLANS};
-use cut_explain::{Estimate, estimate_study, explain};
 use cut_explain::findings::FieldRule;
+use cut_explain::{Estimate, estimate_study, explain};
 use cut_plan::{Field, Plan, PlanFault, Refusal};
 use std::alloc::{AllocError, Global};
 use std::cell::Cell;

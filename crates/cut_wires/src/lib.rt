@@ -6,16 +6,16 @@
 //! counts the bytes that it sends; [`send_rows`] sends a table over it, row by row.
 #![tactic(auto)]
 
-mod faulty_wire;
 mod counting_writer;
+mod faulty_wire;
 mod memory_wire;
 mod rows;
 mod send;
 mod stream_wire;
 mod wire;
 
-pub use faulty_wire::FaultyWire;
 pub use counting_writer::CountingWriter;
+pub use faulty_wire::FaultyWire;
 pub use memory_wire::MemoryWire;
 pub use rows::{Encoding, LONGEST_ROW, PlainRows, RowSource, RowsFault, send_rows};
 pub use send::{Sent, send_all};

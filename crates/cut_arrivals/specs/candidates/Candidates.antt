@@ -21,9 +21,10 @@ cause_of r rule E s ring = (
 
 -- the same, as it is kept: by a key place among some blocks, and a place among some subjects
 abbrev pub cause_in : List ℕ → List ℕ → Cause → Option (ℕ × ℕ) × Option ℕ
-cause_in blocks subjects c =
-    (option_map (λ key_place. key_in blocks key_place) c.heard,
-    option_map (λ place. slice_index subjects place) c.gained)
+cause_in blocks subjects c = (
+  option_map (λ key_place. key_in blocks key_place) c.heard,
+  option_map (λ place. slice_index subjects place) c.gained,
+)
 
 -- key place and place are among these blocks and subjects
 pub record AreCandidatesWithin (blocks subjects : List ℕ) (c : Cause) : Type 0 where

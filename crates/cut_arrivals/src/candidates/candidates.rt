@@ -22,7 +22,12 @@ pub struct Candidates {
 
 impl Candidates {
     /// The candidates of a trial with these alerted edges, which stand in ascending order.
-    pub fn of(alloc: Global, rings: &Rings, rule: Rule, edges: &[Edge]) -> Result<Candidates, AllocError>
+    pub fn of(
+        alloc: Global,
+        rings: &Rings,
+        rule: Rule,
+        edges: &[Edge],
+    ) -> Result<Candidates, AllocError>
         requires rings { rule.k ≤ length rings.now.positions }
         requires edges { edges.now ≡ edges_in rule.k rings.now.nodes (set_of edges.now) }
         ensures { IfOk result (λ x. AreCandidatesOf rings.now (rule_in rule) edges.now x) }

@@ -39,7 +39,12 @@ impl KeyPlaces {
 
     /// The key places of edges of the first `k` rings, in order of the edges. The blocks begin with those of `first`,
     /// if these and one for each edge have places of 16 bits.
-    pub fn after(alloc: Global, first: &[u32], k: u8, edges: &[Edge]) -> Result<KeyPlaces, AllocError>
+    pub fn after(
+        alloc: Global,
+        first: &[u32],
+        k: u8,
+        edges: &[Edge],
+    ) -> Result<KeyPlaces, AllocError>
         requires rings { k ≤ 32 }
         requires edges { IsTrue (are_edges_of k MOST_NODES edges.now) }
         requires few { length edges.now ≤ 2 ^ 16 }

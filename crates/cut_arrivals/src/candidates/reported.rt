@@ -9,9 +9,9 @@ ghost use Rattle.cut_arrivals.specs.candidates.KeyPlaces.{AreKeyPlaces};
 ghost use Rattle.cut_arrivals.specs.candidates.inside.KeyPlaces.{Extends};
 ghost use Rattle.cut_arrivals.specs.candidates.inside.Runs.{first_on};
 
-use crate::candidates::runs::run_len;
 use crate::candidates::key_places::key_places_among;
-use crate::candidates::{Cause, Candidate, Candidates, KeyPlace};
+use crate::candidates::runs::run_len;
+use crate::candidates::{Candidate, Candidates, Cause, KeyPlace};
 use cut_detector::Rule;
 use cut_rings::{Edge, Rings};
 use std::alloc::{AllocError, Global};

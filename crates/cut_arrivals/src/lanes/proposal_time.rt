@@ -5,9 +5,9 @@ ghost use Rattle.cut_arrivals.specs.ranks.Ranks.{IsRank};
 ghost use Rattle.cut_arrivals.specs.ranks.Closing.{IsLeast, IsBegun, IsRaised, IsClosing, is_doubtful};
 ghost use Rattle.cut_arrivals.specs.lanes.Lanes.{lane};
 
+use crate::blocks::NEVER;
 use crate::lanes::lanes::{doubts, has_risen, marked, next_time, raised};
 use crate::lanes::ranks::insert;
-use crate::blocks::NEVER;
 use std::simd::u32x4;
 
 /// When four receivers' processes have ended.

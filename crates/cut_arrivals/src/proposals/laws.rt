@@ -26,7 +26,6 @@ ghost use Rattle.cut_arrivals.specs.proposals.Laws.{
   MembersAreTargets,
 };
 
-
 /// A process is reported from its low time on, and stable from its high time on. Between them it is unstable.
 pub fn modes_follow_from_times()
     ensures reported { IsReportedFromLow }

@@ -3,8 +3,8 @@ ghost use Rattle.std.proofs.Props.{props};
 ghost use Rattle.cut_plan.specs.declared.limits.TheConstants.{MOST_NODES};
 ghost use Rattle.cut_arrivals.specs.candidates.KeyPlaces.{AreKeyPlaces};
 
-use crate::receivers::Trial;
 use crate::candidates::KeyPlaces;
+use crate::receivers::Trial;
 use std::simd::u32x4;
 
 /// Images of each copy, one copy after another.

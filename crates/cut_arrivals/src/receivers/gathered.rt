@@ -4,8 +4,8 @@ ghost use Rattle.cut_arrivals.specs.lanes.Lanes.{lane};
 ghost use Rattle.cut_arrivals.specs.candidates.KeyPlaces.{key_in};
 ghost use Rattle.cut_arrivals.specs.receivers.inside.Times.{reception_in, image_of_key};
 
-use crate::receivers::images::Images;
 use crate::candidates::KeyPlace;
+use crate::receivers::images::Images;
 use std::simd::u32x4;
 
 impl Images<'_> {

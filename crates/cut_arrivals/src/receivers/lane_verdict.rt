@@ -6,10 +6,10 @@ ghost use Rattle.cut_arrivals.specs.receivers.LaneVerdicts.{flagged, has_bit, is
 ghost use Rattle.cut_arrivals.specs.receivers.LaneVerdicts.{members_at};
 ghost use Rattle.cut_arrivals.specs.receivers.LaneVerdicts.{IsVerdictOn};
 
+use crate::candidates::Candidates;
+use crate::proposals::laws;
 use crate::receivers::Receivers;
 use crate::receivers::lanes::{bits_of, has_ended, others, silences};
-use crate::proposals::laws;
-use crate::candidates::Candidates;
 use std::alloc::AllocError;
 
 /// What a receiver is found to propose, compared with the expected members.

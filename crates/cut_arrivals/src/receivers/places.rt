@@ -9,11 +9,11 @@ ghost use Rattle.cut_arrivals.specs.receivers.LaneVerdicts.{has_bit};
 ghost use Rattle.cut_arrivals.specs.receivers.Places.{HasCountedPlaces};
 ghost use Rattle.cut_arrivals.specs.receivers.inside.Places.{image_in, reception_to, KnowsImages, AreImagesOf};
 
+use crate::candidates::{KeyPlace, KeyPlaces};
 use crate::receivers::deliveries::{Deliveries, Kept};
 use crate::receivers::lane_verdict::has_bit;
 use crate::receivers::lanes::{bits_of, counted, next_of, not_next, rows_of};
 use crate::receivers::{Receivers, Trial};
-use crate::candidates::{KeyPlace, KeyPlaces};
 use std::alloc::AllocError;
 use std::simd::u32x4;
 
@@ -137,7 +137,12 @@ impl Deliveries<'_, '_, '_> {
 }
 
 /// The images that are kept of some blocks, if there are as many as these copies have.
-fn kept_for<'a>(kept: &'a [[u32x4; 8]], blocks: &[u32], copies: u8, key_places: &KeyPlaces) -> Kept<'a>
+fn kept_for<'a>(
+    kept: &'a [[u32x4; 8]],
+    blocks: &[u32],
+    copies: u8,
+    key_places: &KeyPlaces,
+) -> Kept<'a>
     ensures whole { copies * result.blocks ≤ length result.images.now }
     ensures known { result.known ≤ result.blocks }
     ensures first { result.known ≤ length key_places.now.blocks.items }

@@ -4,11 +4,11 @@ ghost use Rattle.cut_arrivals.specs.candidates.Candidates.{subjects_of};
 ghost use Rattle.cut_arrivals.specs.receivers.Received.{reception_of, HasReceived, HasKept};
 ghost use Rattle.cut_arrivals.specs.receivers.inside.Times.{AreReportedAt, AreStableAt, AreStableAtTo, AreLeast, AreCopies};
 
+use crate::blocks::least_of;
+use crate::lanes::{ProposalTime, compute_proposal_time};
 use crate::receivers::Trial;
 use crate::receivers::images::Images;
 use crate::receivers::lanes::rows_of;
-use crate::blocks::least_of;
-use crate::lanes::{ProposalTime, compute_proposal_time};
 use std::alloc::{AllocError, Global};
 use std::simd::u32x4;
 
@@ -72,7 +72,11 @@ impl Receivers {
 
     /// Does what [`receive`](Receivers::receive) does, and keeps the images of each copy, which
     /// [`places`](Receivers::places) then need not draw again.
-    pub fn receive_copies(&mut self, trial: Trial<'_>, receivers: [u16; 4]) -> Result<(), AllocError>
+    pub fn receive_copies(
+        &mut self,
+        trial: Trial<'_>,
+        receivers: [u16; 4],
+    ) -> Result<(), AllocError>
         requires receivers { All (λ j. j < MOST_NODES) receivers }
         requires some { 0 < length trial.candidates.now.candidates.items }
         ensures { OnOk result ((i : ℕ) → i < 4 → HasReceived (reception_of trial.entry (slice_index receivers i))
@@ -119,14 +123,22 @@ impl Receivers {
             drawn: self.images.as_slice(),
         };
         crate::proposals::laws::receivers_end_alike();
-        rank(&images, &mut self.values, &mut self.reported_at, &mut self.stable_at);
+        rank(
+            &images,
+            &mut self.values,
+            &mut self.reported_at,
+            &mut self.stable_at,
+        );
         gain(
             &images,
             &mut self.values,
             self.reported_at.as_slice(),
             &mut self.stable_at,
         );
-        self.proposal_time = compute_proposal_time(self.reported_at.as_slice(), self.stable_at.as_slice());
+        self.proposal_time = compute_proposal_time(
+            self.reported_at.as_slice(),
+            self.stable_at.as_slice(),
+        );
         Ok(())
     }
 
@@ -149,7 +161,12 @@ impl Receivers {
 }
 
 /// From when on each candidate is reported, and from when on it is stable if it gains no ring.
-fn rank(images: &Images<'_>, values: &mut Vec<u32x4>, reported_at: &mut Vec<u32x4>, stable_at: &mut Vec<u32x4>)
+fn rank(
+    images: &Images<'_>,
+    values: &mut Vec<u32x4>,
+    reported_at: &mut Vec<u32x4>,
+    stable_at: &mut Vec<u32x4>,
+)
     requires values { 32 ≤ vec_capacity values.old }
     requires reported_at { length images.now.trial.candidates.now.candidates.items ≤ vec_capacity reported_at.old }
     requires stable_at { length images.now.trial.candidates.now.candidates.items ≤ vec_capacity stable_at.old }
@@ -167,7 +184,12 @@ fn rank(images: &Images<'_>, values: &mut Vec<u32x4>, reported_at: &mut Vec<u32x
 }
 
 /// From when on each candidate is stable with the rings that it gains.
-fn gain(images: &Images<'_>, values: &mut Vec<u32x4>, reported_at: &[u32x4], stable_at: &mut [u32x4])
+fn gain(
+    images: &Images<'_>,
+    values: &mut Vec<u32x4>,
+    reported_at: &[u32x4],
+    stable_at: &mut [u32x4],
+)
     requires values { 32 ≤ vec_capacity values.old }
     requires reported_at { AreReportedAt images.now reported_at.now }
     requires stable_at { AreStableAtTo images.now 0 stable_at.old }
@@ -175,7 +197,12 @@ fn gain(images: &Images<'_>, values: &mut Vec<u32x4>, reported_at: &[u32x4], sta
 {
     for (place, candidate) in images.trial.candidates.candidates.iter().enumerate() {
         if candidate.gains {
-            stable_at[place] = images.stable_from(values, reported_at, reported_at[place], candidate);
+            stable_at[place] = images.stable_from(
+                values,
+                reported_at,
+                reported_at[place],
+                candidate,
+            );
         }
     }
 }

@@ -9,13 +9,13 @@ ghost use Rattle.cut_arrivals.specs.receivers.inside.Times.{reception_in, subjec
 ghost use Rattle.cut_arrivals.specs.receivers.inside.Times.{AreReportedAtAnd, IsHigh};
 ghost use Rattle.cut_arrivals.specs.receivers.inside.Times.{time_of_cause};
 
+use crate::blocks::NEVER;
+use crate::candidates::{Candidate, Cause};
+use crate::lanes::select;
+use crate::proposals::laws;
 use crate::receivers::images::Images;
 use crate::receivers::lanes::earlier;
-use crate::proposals::laws;
-use crate::blocks::NEVER;
 use cut_detector::Rule;
-use crate::lanes::select;
-use crate::candidates::{Cause, Candidate};
 use std::simd::u32x4;
 
 impl Images<'_> {
@@ -59,7 +59,13 @@ impl Images<'_> {
 
     /// From when on each ring that counts for a candidate in the end does so, in place of what the list held.
     #[inline(always)]
-    fn gather_counted(&self, values: &mut Vec<u32x4>, reported_at: &[u32x4], low: u32x4, candidate: &Candidate)
+    fn gather_counted(
+        &self,
+        values: &mut Vec<u32x4>,
+        reported_at: &[u32x4],
+        low: u32x4,
+        candidate: &Candidate,
+    )
         requires candidate { IsCandidateOf self.now.trial candidate.now }
         requires reported_at { AreReportedAtAnd self.now candidate.now.subject low reported_at.now }
         requires room { 32 ≤ vec_capacity values.old }

@@ -5,8 +5,8 @@ ghost use Rattle.cut_detector.specs.Rule.{rule_in};
 ghost use Rattle.cut_arrivals.specs.candidates.Candidates.{AreCandidatesOf};
 
 use crate::blocks::Blocks;
-use cut_detector::Rule;
 use crate::candidates::Candidates;
+use cut_detector::Rule;
 use cut_rings::{Edge, Rings};
 
 /// What all receivers of a trial have in common.
@@ -28,6 +28,5 @@ pub struct Trial<'a> {
     ghost few: { copies ≤ 4 },
     ghost layout: { IsLayout rings.now },
     ghost within: { rule.k ≤ length rings.now.positions },
-    ghost candidates_are: { AreCandidatesOf rings.now (rule_in rule) edges.now candidates.now }
-        by { Prim.hlevel props },
+    ghost candidates_are: { AreCandidatesOf rings.now (rule_in rule) edges.now candidates.now } by { Prim.hlevel props },
 }

@@ -11,8 +11,7 @@ ghost use Rattle.cut_shares.specs.join.inside.Merging.{AreAscending, IsSmall, ad
 use crate::join::JoinFault;
 use cut_ledger::{Ledger, Slip, SlipsFault};
 use cut_outcome::Piece;
-use cut_plan::Plan;
-use cut_plan::laws;
+use cut_plan::{Plan, laws};
 use std::alloc::{AllocError, Global};
 
 /// The slips of a plan, joined, if a ledger can begin with them.

@@ -3,7 +3,6 @@
 ghost use Rattle.cut_shares.specs.join.Laws.{JoinedAreApart, JoinedAreGood, JoinedAreTrue, JoinedGiveThePlansTable};
 ghost use Rattle.cut_shares.specs.join.Laws.{JoinedGiveTheTable, JoinedHaveTheTrials};
 
-
 /// Joining slips with which a ledger can begin keeps their trials, and a ledger can begin with the joined slips. No two
 /// of these can be joined further.
 pub fn joined_slips_have_the_same_trials()

@@ -8,9 +8,9 @@ ghost use Rattle.cut_shares.specs.share.inside.Tasks.{done_of, has_result, piece
 
 use crate::share::ShareFault;
 use crate::share::append::append_all;
-use crate::share::share_pieces::SharePieces;
-use crate::share::piece_task::{PieceTask, are_done, deal_pieces};
 use crate::share::env::ShareEnv;
+use crate::share::piece_task::{PieceTask, are_done, deal_pieces};
+use crate::share::share_pieces::SharePieces;
 use cut_disks::Disk;
 use cut_journal::Journal;
 use cut_outcome::Gate;

@@ -5,8 +5,7 @@ ghost use Rattle.cut_shares.specs.share.inside.PieceParts.{IsRest};
 
 use crate::share::Share;
 use cut_outcome::Piece;
-use cut_plan::Plan;
-use cut_plan::laws;
+use cut_plan::{Plan, laws};
 
 /// An iterator over the pieces of a share within pieces of its plan: what is left of the current one, and those after
 /// it.

@@ -7,14 +7,13 @@ ghost use Rattle.cut_ledger.specs.Slips.{AreGood};
 ghost use Rattle.cut_shares.specs.share.inside.Opening.{IsFaultOfOpening};
 
 use crate::share::batch::run_pieces;
-use crate::share::share_pieces::SharePieces;
-use crate::share::piece_task::new_tasks;
 use crate::share::env::ShareEnv;
+use crate::share::piece_task::new_tasks;
+use crate::share::share_pieces::SharePieces;
 use crate::share::{Share, ShareFault};
 use cut_disks::Disk;
 use cut_journal::Journal;
-use cut_ledger::laws;
-use cut_ledger::{Ledger, Slip, SlipsFault};
+use cut_ledger::{Ledger, Slip, SlipsFault, laws};
 use cut_outcome::{Gate, Piece};
 use cut_plan::Plan;
 use cut_rings::Rings;

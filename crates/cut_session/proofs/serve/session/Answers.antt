@@ -1,4 +1,4 @@
-use Rattle.cut_session.proofs.Courses.{seen_at}
+use Rattle.cut_session.proofs.SessionTraces.{seen_at}
 use Rattle.cut_session.proofs.serve.session.Goals as goal
 
 pub returns-clause-ends : goal.returns-clause-ends

@@ -14,7 +14,7 @@ is_target-requires c =
     subst (λ (ns : List Candidate). index < length ns) c.deref-candidate-items.ensures.value
     c.loop-candidate-test.true in
     let is = c.candidate-item.is ∙ ap (λ (ns : List Candidate). slice_index_or ns index candidate)
-        c.deref-candidate-items.ensures.value in
+    c.deref-candidate-items.ensures.value in
     let below = c.requires index 0 (omega (arith, inside, length-map candidates (λ (d : Candidate). d.subject))) in
     let at = get_or-map (λ (d : Candidate). d.subject) candidates index candidate 0 inside in
     omega (arith, below, at, ap (λ (d : Candidate). d.subject) is)

@@ -32,12 +32,12 @@ returns-in-Err g c =
       rows = omega (arith, c.count-count.ensures);
       short = omega (
         arith,
-        g.met.F.Framing.short c.header.result.now,
+        g.met.F.Encoding.short c.header.result.now,
         c.header.ensures.short,
         ap (λ (l : List ℕ). length l) header,
       );
       ends = (
-        g.met.R.Rows.begins c.args.rows.now,
+        g.met.R.RowSource.begins c.args.rows.now,
         subst (λ (l : List ℕ). Sends (Err c.in-Err.fault) l writer new) header c.in-Err.ensures,
       );
     }
@@ -72,7 +72,7 @@ returns-in-Err-send g c =
       few = omega (arith, c.loop-place-test.true, c.count-count.ensures);
       rows = omega (arith, c.count-count.ensures);
       short = short_more framed t n c.loop-place.invariant.short
-          (framed_row framed t (g.R.RowSource.table c.loop-place.rows) c.in-Ok-row.text.items n g.met.F.Framing.short
+          (framed_row framed t (g.R.RowSource.table c.loop-place.rows) c.in-Ok-row.text.items n g.met.F.Encoding.short
           c.loop-place.invariant.same gives.0 gives.1);
       ends = (
         gives.2,

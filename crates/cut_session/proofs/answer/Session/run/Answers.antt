@@ -1,5 +1,5 @@
 use Rattle.cut_wires.specs.Sending.{sending}
-use Rattle.cut_session.proofs.Courses.{concludes_at}
+use Rattle.cut_session.proofs.SessionTraces.{concludes_at}
 use Rattle.cut_session.proofs.answer.Session.run.Goals as goal
 
 pub returns-clause-ends : goal.returns-clause-ends

@@ -2,7 +2,7 @@ use Rattle.std.proofs.Common.{◌∙◌, refl, ap, arith}
 use Rattle.cut_wires.specs.Sending.{sending}
 use Rattle.cut_messages.specs.Reading.{Reading}
 use Rattle.cut_session.proofs.Turns.{rises_none}
-use Rattle.cut_session.proofs.Courses.{serves_first}
+use Rattle.cut_session.proofs.SessionTraces.{serves_first}
 use Rattle.cut_session.proofs.answer.Session.serve.Goals as goal
 
 pub returns-in-Err-clause-ends : goal.returns-in-Err-clause-ends

@@ -1,6 +1,6 @@
 use Rattle.std.proofs.Common.{sym, arith}
 use Rattle.cut_wires.specs.Sending.{sending}
-use Rattle.cut_session.proofs.Courses.{serves_given, ends_between, ends_within, ends_unread}
+use Rattle.cut_session.proofs.SessionTraces.{serves_given, ends_between, ends_within, ends_unread}
 use Rattle.cut_session.proofs.answer.Session.take_next.Goals as goal
 
 pub returns-in-Err-clause-goes : goal.returns-in-Err-clause-goes

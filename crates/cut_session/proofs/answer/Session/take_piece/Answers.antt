@@ -1,6 +1,6 @@
 use Rattle.std.proofs.Common.{◌∙◌, sym, arith}
 use Rattle.cut_wires.specs.Sending.{sending}
-use Rattle.cut_session.proofs.Courses.{ends_full}
+use Rattle.cut_session.proofs.SessionTraces.{ends_full}
 use Rattle.cut_session.proofs.Feeding.{fed_ends, fed_limit, fed_fault, fed_on}
 use Rattle.cut_session.proofs.answer.Session.take_piece.Goals as goal
 

@@ -57,7 +57,7 @@ judge_one-requires-clause-placed_verdict c =
     let finds = c.judge-lane_verdicts.ensures.finds x subjects lane low heard in
     let f : PlacedVerdict = record { lane_verdict = c.at.result; place = c.place_in.result } in
     let placed_verdict : IsPlacedVerdict x version wanted (has_bit c.receive.new.times.proposal_time.doubt lane) f
-        = record {
+    = record {
       finds = subst (λ f. IsVerdictOn wanted (members_at x) f) (sym c.at.ensures.lane_verdict) finds;
       certain = λ set. c.at.ensures.doubtful.1 (subst (λ n. IsTrue (has_bit n lane))
           (sym c.judge-lane_verdicts.ensures.doubtful) set);

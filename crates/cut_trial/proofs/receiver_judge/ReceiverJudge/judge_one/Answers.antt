@@ -56,7 +56,7 @@ returns-in-Wanted-Some-clause-judged c =
     c.requires.placed_verdict.placed_verdict.finds in
     let found = some_proposed p wanted (sym proposed) in
     let certain = not_doubtful _ c.args.placed_verdict.lane_verdict
-        (wanted_is_certain c.args.placed_verdict.lane_verdict c.in-Wanted-Some.is-0)
+    (wanted_is_certain c.args.placed_verdict.lane_verdict c.in-Wanted-Some.is-0)
     c.requires.placed_verdict.placed_verdict.certain in
     rw (one_more_judged setup.alerts.now d setup.receivers.now c.args.index c.requires.next.some, found.1)
     (c.add_exact.ensures.judging setup.roles.now found.0 (proposals_to setup.alerts.now d setup.receivers.now
@@ -91,7 +91,7 @@ add-requires-in-Other-Some-clause-ascending c =
     let same : proposal_at (reception_of context.trial j) ≡ proposed_by alerts d j =
     context.heard j ∙ ap (λ x. proposed_by alerts x j) (sym c.requires.ready.draws) in
     let certain = not_doubtful _ c.args.placed_verdict.lane_verdict
-        (other_is_certain c.args.placed_verdict.lane_verdict c.in-Other-Some.is-0)
+    (other_is_certain c.args.placed_verdict.lane_verdict c.in-Other-Some.is-0)
     c.requires.placed_verdict.placed_verdict.certain in
     let listed = found_other (flagged (subjects_of context.trial.candidates.now.candidates.items) context.wanted.now)
     (members_at (reception_of context.trial j)) c.args.placed_verdict.lane_verdict _ c.in-Other-Some.is-0
@@ -116,7 +116,7 @@ returns-in_ok-members-in-Other-Some-clause-judged c =
     let same : proposal_at (reception_of context.trial j) ≡ p =
     context.heard j ∙ ap (λ x. proposed_by setup.alerts.now x j) (sym c.requires.ready.draws) in
     let certain = not_doubtful _ c.args.placed_verdict.lane_verdict
-        (other_is_certain c.args.placed_verdict.lane_verdict c.in-Other-Some.is-0)
+    (other_is_certain c.args.placed_verdict.lane_verdict c.in-Other-Some.is-0)
     c.requires.placed_verdict.placed_verdict.certain in
     let listed = found_other (flagged (subjects_of context.trial.candidates.now.candidates.items) context.wanted.now)
     (members_at (reception_of context.trial j)) c.args.placed_verdict.lane_verdict _ c.in-Other-Some.is-0

@@ -9,5 +9,8 @@ key_places_among-requires-clause-edges c =
 
 pub returns-clause-candidate : goal.returns-clause-candidate
 returns-clause-candidate c =
-    grind (arith, some_gain c.args.self.now c.key_places_among.new.blocks.items c.args.subject
-    c.in_ok-causes.causes.items)
+    grind (
+      arith,
+      some_gain c.args.self.now c.key_places_among.new.blocks.items c.args.subject
+          c.in_ok-causes.causes.items,
+    )

@@ -9,8 +9,11 @@ use Rattle.cut_arrivals.proofs.receivers.images.Images.stable_from.Goals as goal
 
 pub ranks-requires-clause-few : goal.ranks-requires-clause-few
 ranks-requires-clause-few c =
-    omega (arith, few_causes c.args.self.now.trial c.args.candidate.now c.requires.candidate,
-    c.gather_counted.ensures.many)
+    omega (
+      arith,
+      few_causes c.args.self.now.trial c.args.candidate.now c.requires.candidate,
+      c.gather_counted.ensures.many,
+    )
 
 pub ranks-requires-clause-times : goal.ranks-requires-clause-times
 ranks-requires-clause-times c i low =

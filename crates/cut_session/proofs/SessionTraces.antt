@@ -49,7 +49,7 @@ read_by_more fault l bytes = refl
 
 -- ---- a fault ends it
 
--- a counting writer by which a course was served, at which a fault is due
+-- a counting writer by which a trace was served, at which a fault is due
 pub record Stands (first : Sending) (fault : SessionFault) (c : SessionTrace) (mid : Sending) : Type 0 where
   pub wire : mid.wire ≡ first.wire
   pub log : mid.log ≡ read_by fault (passed c c.out first.log)
@@ -97,10 +97,10 @@ some_held : (held : List ℕ) (e : EndFault) → end_of None held ≡ Err e → 
 some_held [] e ends none = cc
 some_held (b ∷ held) e ends none = cc
 
--- the course so far, with what a read gave that is not read yet
-abbrev pub course_of : {hall : HallValue} {low high : View} {r : Reading} {requests : ℕ} {piece : List ℕ}
+-- the trace so far, with what a read gave that is not read yet
+abbrev pub trace_of : {hall : HallValue} {low high : View} {r : Reading} {requests : ℕ} {piece : List ℕ}
     {first now : Sending} → List ℕ → IsServing hall low high r requests piece first now → SessionTrace
-course_of last s = record {
+trace_of last s = record {
   stream = s.stream;
   answered = s.messages;
   unanswered = [];
@@ -112,8 +112,8 @@ course_of last s = record {
 module _ {hall : HallValue} {low high : View} {r : Reading} {requests : ℕ} {piece : List ℕ} {first now : Sending}
     (s : IsServing hall low high r requests piece first now) (few : requests ≤ request_limit)
     (none_sent : first.sent ≡ 0) where
-  pub is_course : (last : List ℕ) → IsSessionTrace hall low high (course_of last s)
-  is_course last = record {
+  pub is_trace : (last : List ℕ) → IsSessionTrace hall low high (trace_of last s)
+  is_trace last = record {
     splits = rw append-nil (rw s.side at s.read.splits);
     few = omega (arith, few, s.many);
     replies = s.replies;
@@ -124,7 +124,7 @@ module _ {hall : HallValue} {low high : View} {r : Reading} {requests : ℕ} {pi
 
   -- a fault is due now, after what the last read did
   stands_at : (fault : SessionFault) (last : List ℕ) (mid : Sending) → mid.wire ≡ now.wire → mid.sent ≡ now.sent
-      → mid.log ≡ read_by fault (passed (course_of last s) s.out first.log) → Stands first fault (course_of last s) mid
+      → mid.log ≡ read_by fault (passed (trace_of last s) s.out first.log) → Stands first fault (trace_of last s) mid
   stands_at fault last mid wire sent log = record {
     wire = wire ∙ ap (λ (t : Sending). t.wire) s.line;
     log = log;
@@ -136,7 +136,7 @@ module _ {hall : HallValue} {low high : View} {r : Reading} {requests : ℕ} {pi
   pub ends_full : (result : SessionEnd) (new : Sending) → 0 < length piece → length piece ≤ 4096
       → LeavesSending session.Memory result now new → ConcludesTable hall low high result first new
   ends_full result new some short l =
-      leaves (is_course piece) (refl, some, short, right_after)
+      leaves (is_trace piece) (refl, some, short, right_after)
       (stands_at session.Memory piece now refl refl (ap (λ (t : Sending). t.log) s.line)) result new l
 
 -- at first
@@ -177,7 +177,7 @@ module _ {hall : HallValue} {low high : View} {r : Reading} {requests : ℕ} {fi
 
   -- or the end
   gave_end : (buffer : List ℕ) (n : ℕ) → new ≡ got_on now buffer n → n ≡ 0
-      → new.log ≡ ended (passed (course_of [] s) s.out first.log)
+      → new.log ≡ ended (passed (trace_of [] s) s.out first.log)
   gave_end buffer n is none =
       cc (is, none, passing_same (λ t. with_given t buffer 0) with_end now.log (λ t. cc (append-nil t.given)), s.line)
 
@@ -186,21 +186,21 @@ module _ {hall : HallValue} {low high : View} {r : Reading} {requests : ℕ} {fi
       → ConcludesTable hall low high end.EndOfInput first new
   ends_between buffer n few none_sent is none whole =
       let rest : s.read.rest ≡ [] = sym (s.read.held s.right) ∙ none_held r.held (rw s.right at whole) in
-      let ends : EndsSessionAs hall low high end.EndOfInput (course_of [] s) first.log new.log =
+      let ends : EndsSessionAs hall low high end.EndOfInput (trace_of [] s) first.log new.log =
       ((refl, refl), rest, gave_end buffer n is none) in
-      ((course_of [] s, is_course s few none_sent [], ends), cc (is, s.line))
+      ((trace_of [] s, is_trace s few none_sent [], ends), cc (is, s.line))
 
   pub ends_within : (buffer : List ℕ) (n : ℕ) (result : SessionEnd) (e : EndFault) (last : Sending)
       → requests ≤ request_limit → first.sent ≡ 0 → new ≡ got_on now buffer n → n ≡ 0
       → end_of r.fault r.held ≡ Err e → LeavesSending session.Truncated result new last
       → ConcludesTable hall low high result first last
   ends_within buffer n result e last few none_sent is none part l =
-      let due : IsDue session.Truncated (course_of [] s) = (
+      let due : IsDue session.Truncated (trace_of [] s) = (
         (refl, refl),
         right_after s few none_sent,
         λ empty. some_held r.held e (rw s.right at part) (s.read.held s.right ∙ empty),
       ) in
-      leaves (is_course s few none_sent []) due
+      leaves (is_trace s few none_sent []) due
       (stands_at s few none_sent session.Truncated [] new (ap (λ (t : Sending). t.wire) is)
       (ap (λ (t : Sending). t.sent) is) (gave_end buffer n is none)) result last l
 
@@ -209,8 +209,8 @@ module _ {hall : HallValue} {low high : View} {r : Reading} {requests : ℕ} {fi
       → new ≡ record { wire = now.wire; log = read_failed now.log; sent = now.sent }
       → LeavesSending session.Read result new last → ConcludesTable hall low high result first last
   ends_unread result last few none_sent is l =
-      let due : IsDue session.Read (course_of [] s) = ((refl, refl), right_after s few none_sent) in
-      leaves (is_course s few none_sent []) due
+      let due : IsDue session.Read (trace_of [] s) = ((refl, refl), right_after s few none_sent) in
+      leaves (is_trace s few none_sent []) due
       (stands_at s few none_sent session.Read [] new (ap (λ (t : Sending). t.wire) is) (ap (λ (t : Sending). t.sent) is)
       (ap (λ (t : Sending). t.log) is ∙ ap (λ (t : Sending). read_failed t.log) s.line)) result last l
 
