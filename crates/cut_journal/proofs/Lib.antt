@@ -13,4 +13,5 @@ pub mod SlipBytes
 pub mod Series
 pub mod Unread
 pub mod Appends
+pub mod Adding
 pub mod Files

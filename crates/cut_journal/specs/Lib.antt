@@ -3,6 +3,8 @@ pub mod Reading
 pub mod Unread
 pub mod Journal
 pub mod Opening
+pub mod Adding
+pub mod Accepted
 pub mod FaultCode
 pub mod Laws
 pub mod Trust

@@ -5,6 +5,8 @@
 //! as these and the one whose append was under way.
 #![tactic(auto)]
 
+mod accepted_slips;
+mod added_slips;
 mod durable_write;
 mod fault;
 mod first_bytes;
@@ -19,10 +21,13 @@ mod new_study;
 mod open;
 mod slip_append;
 mod slips;
+mod store_fault;
 
+pub use accepted_slips::AcceptedSlips;
 pub use cut_disks::{Disk, FaultyDisk, FileDisk, MemoryDisk, Tear};
 pub use fault::JournalFault;
 pub use first_bytes::{header_text, is_study};
 pub use format::digest_of;
 pub use journal::Journal;
 pub use kept_slips::KeptSlips;
+pub use store_fault::StoreFault;

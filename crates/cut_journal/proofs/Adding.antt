@@ -1,0 +1,206 @@
+-- Slips that are added to a journal, one after another.
+use Rattle.std.proofs.Common.{◌≡◌, ◌∙◌, ◌≤◌, ◌+◌, ◌++◌, inl, inr, ℕ, List, [], ◌∷◌, Ok, Err, Option, Some, None, refl}
+use Rattle.std.proofs.Common.{sym, ap, subst, arith, append-nil, append_assoc, length, length-append}
+use Rattle.std.specs.Bool.{⊤}
+use Rattle.std.specs.Prelude.{IsSome, IsErrOf, Result, ◌↔◌}
+use Rattle.cut_disks.specs.Log.{DiskLog, Knows, on}
+use Rattle.cut_ledger.specs.declared.slip.Slip.{Slip}
+use Rattle.cut_journal.specs.declared.fault.JournalFault.{JournalFault}
+use Rattle.cut_journal.specs.declared.fault.JournalFault.TheVariants as journal
+use Rattle.cut_journal.specs.declared.store_fault.StoreFault.{StoreFault}
+use Rattle.cut_journal.specs.declared.store_fault.StoreFault.TheVariants as store
+use Rattle.cut_journal.specs.Adding.{Adds, EndsAdding, doubtful_after, failures_after}
+use Rattle.cut_journal.specs.inside.Adding.{store_fault_of}
+use Rattle.cut_journal.specs.Journal.{Appends, IsFileOf, IsSlipAppendFault, JournalValue, LeavesAppend, kept_slips}
+use Rattle.cut_journal.proofs.Series.{LeavesDoubt, append_moments, each_then, none_of, nothing_appended}
+
+-- ---- none, and some after others
+
+-- nothing is added
+pub none_added : {D : Type 0} (log : D → DiskLog) (j : JournalValue D)
+    → Knows (log j.disk) (IsFileOf j.plan j.count j.doubtful) → Adds log [] None j j
+none_added log j sound = record {
+  plan = refl;
+  count = omega arith;
+  doubtful = refl;
+  taken = λ some. absurd (omega (arith, some));
+  whole = λ some. absurd (cc);
+  untouched = λ none unfailed. refl;
+  disk = record {
+    known = refl;
+    state = λ known. record {
+      moments = nothing_appended j.plan j.count j.doubtful (on (log j.disk)) (sound known);
+      kept = sym (append-nil (kept_slips j.plan j.count (on (log j.disk))));
+    };
+    faults = refl;
+  };
+}
+
+-- what is left to be said of the doubtful slip
+doubt_left : (ys : List Slip) (failed before after : Option Slip) → (1 ≤ length ys → before ≡ None)
+    → (IsSome failed → before ≡ None) → after ≡ doubtful_after failed before → LeavesDoubt before after ys
+doubt_left (y ∷ ys) failed before after taken whole is = inl (taken (omega arith))
+doubt_left [] (Some slip) before after taken whole is = inl (whole refl)
+doubt_left [] None before after taken whole is = inr (refl, is)
+
+taken_in : (xs ys : List Slip) (old mid : Option Slip) → (1 ≤ length xs → old ≡ None) → mid ≡ old
+    → (1 ≤ length ys → mid ≡ None) → 1 ≤ length (xs ++ ys) → old ≡ None
+taken_in [] ys old mid before same after some = sym same ∙ after some
+taken_in (x ∷ xs) ys old mid before same after some = before (omega arith)
+
+-- slips that are added after others
+pub added_then : {D : Type 0} (log : D → DiskLog) (xs ys : List Slip) (failed : Option Slip)
+    (old mid new : JournalValue D) → Adds log xs None old mid → Adds log ys failed mid new
+    → Adds log (xs ++ ys) failed old new
+added_then log xs ys failed old mid new before after = record {
+  plan = after.plan ∙ before.plan;
+  count = (let one = before.count in let two = after.count in let sum = length-append xs ys in
+      omega (arith, one, two, sum));
+  doubtful = after.doubtful ∙ ap (λ (o : Option Slip). doubtful_after failed o) before.doubtful;
+  taken = taken_in xs ys old.doubtful mid.doubtful before.taken before.doubtful after.taken;
+  whole = λ some. sym before.doubtful ∙ after.whole some;
+  untouched = λ none unfailed. (let sum = length-append xs ys in
+      after.untouched (omega (arith, none, sum)) unfailed ∙ before.untouched (omega (arith, none, sum)) refl);
+  disk = record {
+    known = after.disk.known ∙ before.disk.known;
+    state = λ known. (let first = before.disk.state known in
+        let second = after.disk.state (before.disk.known ∙ known) in record {
+          moments = each_then old.plan (kept_slips old.plan old.count (on (log old.disk)))
+              (kept_slips mid.plan mid.count (on (log mid.disk))) xs ys mid.doubtful new.doubtful (on (log old.disk))
+              (on (log mid.disk)) (on (log new.disk)) first.kept
+              (doubt_left ys failed mid.doubtful new.doubtful after.taken after.whole after.doubtful) first.moments
+              (grind (arith, second.moments, before.plan));
+          kept = second.kept ∙ ap (λ (l : List Slip). l ++ ys) first.kept
+              ∙ append_assoc (kept_slips old.plan old.count (on (log old.disk))) xs ys;
+        });
+    faults = after.disk.faults ∙ ap (λ n. failures_after failed n) before.disk.faults;
+  };
+}
+
+-- ---- one
+
+module _ {D : Type 0} (log : D → DiskLog) (slip : Slip) (old new : JournalValue D)
+    (sound : Knows (log old.disk) (IsFileOf old.plan old.count old.doubtful)) where
+  pub slip_added : (n : ℕ) → (IsErrOf {T = ℕ} (Ok n) journal.Broken ↔ IsSome old.doubtful)
+      → LeavesAppend (Ok n) slip old new → Appends log (Ok n) slip old new
+      → EndsAdding {T = ⊤} log (Ok tt) (slip ∷ []) old new
+  slip_added n broken left appends =
+      let none : old.doubtful ≡ None = none_of old.doubtful (λ some. cc (broken.1 some)) in (
+        slip ∷ [],
+        None,
+        (
+          record {
+            plan = left.0;
+            count = left.1;
+            doubtful = left.2 ∙ sym none;
+            taken = λ some. none;
+            whole = λ some. none;
+            untouched = λ zero unfailed. absurd (omega (arith, zero));
+            disk = record {
+              known = appends.known;
+              state = λ known. (let one = appends.state known in record {
+                moments = append_moments (Ok n) slip (λ d. on (log d)) old new left broken (sound known) one.moments
+                    one.acknowledged one.kept;
+                kept = one.kept;
+              });
+              faults = appends.faults;
+            };
+          },
+          (refl, refl),
+        ),
+      )
+
+  pub slip_failed : (e : JournalFault) → IsSlipAppendFault e
+      → (IsErrOf {T = ℕ} (Err e) journal.Broken ↔ IsSome old.doubtful) → LeavesAppend (Err e) slip old new
+      → Appends log (Err e) slip old new → EndsAdding {T = ⊤} log (Err (store_fault_of e)) (slip ∷ []) old new
+  slip_failed journal.Disk may broken left appends =
+      let none : old.doubtful ≡ None = none_of old.doubtful (λ some. cc (broken.1 some)) in (
+        [],
+        Some slip,
+        (
+          record {
+            plan = left.0;
+            count = (let same = left.1 in omega (arith, same));
+            doubtful = left.2;
+            taken = λ some. none;
+            whole = λ some. none;
+            untouched = λ zero unfailed. absurd (cc);
+            disk = record {
+              known = appends.known;
+              state = λ known. (let one = appends.state known in record {
+                moments = append_moments (Err journal.Disk) slip (λ d. on (log d)) old new left broken (sound known)
+                    one.moments one.acknowledged one.kept;
+                kept = one.kept ∙ sym (append-nil (kept_slips old.plan old.count (on (log old.disk))));
+              });
+              faults = appends.faults;
+            };
+          },
+          (slip, [], (refl, refl)),
+        ),
+      )
+  slip_failed journal.Broken may broken left appends =
+      subst (λ (j : JournalValue D). EndsAdding {T = ⊤} log (Err store.Broken) (slip ∷ []) old j) (sym left)
+      ([], None, (none_added log old sound, (omega arith, broken.0 refl, (refl, refl))))
+  slip_failed fault may broken left appends = absurd may
+
+-- ---- how some end after others
+
+pub all_added : {T D : Type 0} (log : D → DiskLog) (done : T) (xs ys all : List Slip) (old mid new : JournalValue D)
+    → xs ++ ys ≡ all → Adds log xs None old mid → EndsAdding {T = T} log (Ok done) ys mid new → Adds log all None old new
+all_added log done xs ys all old mid new are before (added, failed, ends) =
+    subst (λ (l : List Slip). Adds log l None old new) (ap (λ (l : List Slip). xs ++ l) ends.1.0 ∙ are)
+    (subst (λ (o : Option Slip). Adds log (xs ++ added) o old new) ends.1.1
+    (added_then log xs added failed old mid new before ends.0))
+
+-- none were added before to a journal that is broken
+pub none_before : (xs : List Slip) (old mid : Option Slip) → (1 ≤ length xs → old ≡ None) → mid ≡ old → IsSome mid → xs ≡ []
+none_before [] old mid taken same some = refl
+none_before (x ∷ xs) old mid taken same some =
+    absurd (let none : mid ≡ None = same ∙ taken (omega arith) in cc)
+
+regroup : (xs added : List Slip) (slip : Slip) (later rest : List Slip)
+    → (xs ++ (added ++ slip ∷ later)) ++ rest ≡ (xs ++ added) ++ slip ∷ (later ++ rest)
+regroup xs added slip later rest = simp append_assoc
+
+pub adding_stops : (T U : Type 0) {D : Type 0} (log : D → DiskLog) (e : StoreFault) (xs ys rest all : List Slip)
+    (old mid new : JournalValue D) → all ≡ (xs ++ ys) ++ rest → Adds log xs None old mid
+    → EndsAdding {T = T} log (Err e) ys mid new → EndsAdding {T = U} log (Err e) all old new
+adding_stops T U log store.Broken xs ys rest all old mid new are before (added, failed, ends) =
+    let some : IsSome old.doubtful = subst (λ (o : Option Slip). IsSome o) before.doubtful ends.1.1 in
+    let none = none_before xs old.doubtful mid.doubtful before.taken before.doubtful ends.1.1 in (
+      xs ++ added,
+      failed,
+      (
+        added_then log xs added failed old mid new before ends.0,
+        (
+          (let size = ap (λ (l : List Slip). length l) are in let one = length-append (xs ++ ys) rest in
+              let two = length-append xs ys in let low = ends.1.0 in omega (arith, size, one, two, low)),
+          some,
+          (ap (λ (l : List Slip). l ++ added) none ∙ ends.1.2.0, ends.1.2.1),
+        ),
+      ),
+    )
+adding_stops T U log store.Disk xs ys rest all old mid new are before (added, failed, ends) = (
+  xs ++ added,
+  failed,
+  (
+    added_then log xs added failed old mid new before ends.0,
+    (
+      ends.1.0,
+      ends.1.1 ++ rest,
+      (
+        are ∙ ap (λ (l : List Slip). (xs ++ l) ++ rest) ends.1.2.0 ∙ regroup xs added ends.1.0 ends.1.1 rest,
+        ends.1.2.1,
+      ),
+    ),
+  ),
+)
+adding_stops T U log fault xs ys rest all old mid new are before (added, failed, ends) = absurd ends.1
+
+-- the disk failed at the only one
+pub one_failed : (x : Slip) (added : List Slip) (slip : Slip) (later : List Slip) → x ∷ [] ≡ added ++ slip ∷ later
+    → (added ≡ []) × (slip ≡ x)
+one_failed x [] slip later are = (refl, cc)
+one_failed x (y ∷ added) slip later are =
+    absurd (let size = ap (λ (l : List Slip). length l) are in let sum = length-append added (slip ∷ later) in
+    omega (arith, size, sum))
