@@ -1,3 +1,2 @@
 pub mod Migration
-pub mod FaultCode
 pub mod inside

@@ -4,8 +4,6 @@
 //! versions report are those of the slip. It is how a checkpoint of version 1 goes on as one of version 2.
 #![tactic(auto)]
 
-mod fault;
 mod migration;
 
-pub use fault::MigrateFault;
 pub use migration::migrate;

@@ -1,5 +1,4 @@
-ghost use Rattle.std.specs.Prelude.{◌≡◌, ◌+◌, ◌<◌, ◌↔◌, ◌++◌, ℕ, IsErrOf, IsTrue};
-ghost use Rattle.cut_disks.specs.Log.{IsKnown, is_known, on};
+ghost use Rattle.std.specs.Prelude.{◌≡◌, ◌↔◌, IsErrOf, IsTrue};
 ghost use Rattle.cut_fields.specs.declared.version.Version.TheVariants.{One, Two};
 ghost use Rattle.cut_plan.specs.Plan.{IsPlan};
 ghost use Rattle.cut_plan.specs.Targets.{upgraded};
@@ -8,16 +7,12 @@ ghost use Rattle.cut_outcome.specs.Outcome.{rings_of};
 ghost use Rattle.cut_outcome.specs.Sum.{is_piece};
 ghost use Rattle.cut_ledger.specs.Slips.{AreGood};
 ghost use Rattle.cut_ledger.specs.World.{IsTrueSlip};
-ghost use Rattle.cut_journal.specs.Journal.{AppendsEach, kept_slips, taken};
-ghost use Rattle.cut_migration.specs.Migration.{EndsMigration, first_moved};
-ghost use Rattle.cut_migration.specs.inside.Migration.{IsJudgedBy, MovesOne, migrate_fault_of};
-ghost use Rattle.cut_migration.specs.Migration.{moved, moving_faults};
-ghost use Rattle.cut_migration.specs.inside.Migration.{kept_after};
+ghost use Rattle.cut_migration.specs.Migration.{EndsMigration};
+ghost use Rattle.cut_migration.specs.inside.Migration.{MovesOne};
 
-use crate::MigrateFault;
 use cut_disks::Disk;
-use cut_journal::{Journal, JournalFault};
-use cut_ledger::{Ledger, Slip, SlipsFault};
+use cut_journal::{Journal, StoreFault};
+use cut_ledger::{Ledger, Slip};
 use cut_outcome::{PieceResult, Totals, laws};
 use cut_plan::{Plan, Version};
 use cut_rings::Rings;
@@ -40,28 +35,18 @@ pub fn migrate<D: Disk>(
     slips: &[Slip],
     plan: &Plan,
     journal: &mut Journal<D>,
-) -> Result<u64, MigrateFault>
-    ensures version { IsErrOf result MigrateFault.NotVersion1 ↔ (version_of plan.now.failing ≡ Two) }
-    ensures ends { EndsMigration result plan.now slips.now journal.old journal.new }
-    ensures moments { IsKnown (D.log journal.old.disk) → (n : ℕ) → journal.new.count ≡ journal.old.count + n →
-        AppendsEach journal.old.plan (kept_slips journal.old.plan journal.old.count (on (D.log journal.old.disk)))
-        journal.new.doubtful (first_moved plan.now slips.now n)
-        (on (D.log journal.old.disk)) (on (D.log journal.new.disk)) }
-    ensures kept { IsKnown (D.log journal.old.disk) → (n : ℕ) → journal.new.count ≡ journal.old.count + n →
-        kept_slips journal.new.plan journal.new.count (on (D.log journal.new.disk))
-        ≡ kept_slips journal.old.plan journal.old.count (on (D.log journal.old.disk))
-        ++ first_moved plan.now slips.now n }
-    ensures known { is_known (D.log journal.new.disk) ≡ is_known (D.log journal.old.disk) }
-    ensures faults { (D.log journal.new.disk).failed ≡ moving_faults result (D.log journal.old.disk).failed }
+) -> Result<u64, StoreFault>
+    ensures version { IsErrOf result StoreFault.NotVersion1 ↔ (version_of plan.now.failing ≡ Two) }
+    ensures ends { EndsMigration D.log result plan.now slips.now journal.old journal.new }
 {
     journal.stays_readable();
     if plan.version() != Version::One {
-        return Err(MigrateFault::NotVersion1);
+        return Err(StoreFault::NotVersion1);
     }
-    judge(alloc, plan, slips)?;
+    Ledger::from_slips(alloc, plan.try_clone(alloc)?, slips)?;
     let upgrade = plan.upgrade(alloc)?;
     if !journal.plan().same(&upgrade) {
-        return Err(MigrateFault::OtherPlan);
+        return Err(StoreFault::OtherPlan);
     }
     let rings = Rings::hashed(alloc, &upgrade)?;
     let target = Target {
@@ -70,17 +55,6 @@ pub fn migrate<D: Disk>(
         rings: &rings,
     };
     move_slips(alloc, slips, target, journal)
-}
-
-/// Whether a ledger can begin with these slips.
-fn judge(alloc: Global, plan: &Plan, slips: &[Slip]) -> Result<(), MigrateFault>
-    ensures { IsJudgedBy result plan.now slips.now }
-{
-    match Ledger::from_slips(alloc, plan.try_clone(alloc)?, slips) {
-        Ok(_) => Ok(()),
-        Err(SlipsFault::BadSlip(number)) => Err(MigrateFault::BadSlip(number)),
-        Err(SlipsFault::Memory) => Err(MigrateFault::Memory),
-    }
 }
 
 /// A plan of version 1, its upgrade, and the rings of the upgrade.
@@ -101,21 +75,11 @@ fn move_slips<D: Disk>(
     slips: &[Slip],
     target: Target<'_>,
     journal: &mut Journal<D>,
-) -> Result<u64, MigrateFault>
+) -> Result<u64, StoreFault>
     requires good { AreGood target.plan.now slips.now }
     requires plan { journal.old.plan ≡ upgraded target.plan.now }
-    ensures ends { EndsMigration result target.entry.plan.now slips.now journal.old journal.new }
-    ensures version { IsErrOf result MigrateFault.NotVersion1 → ⊥ }
-    ensures moments { IsKnown (D.log journal.old.disk) → (n : ℕ) → journal.new.count ≡ journal.old.count + n →
-        AppendsEach journal.old.plan (kept_slips journal.old.plan journal.old.count (on (D.log journal.old.disk)))
-        journal.new.doubtful (first_moved target.entry.plan.now slips.now n)
-        (on (D.log journal.old.disk)) (on (D.log journal.new.disk)) }
-    ensures kept { IsKnown (D.log journal.old.disk) → (n : ℕ) → journal.new.count ≡ journal.old.count + n →
-        kept_slips journal.new.plan journal.new.count (on (D.log journal.new.disk))
-        ≡ kept_slips journal.old.plan journal.old.count (on (D.log journal.old.disk))
-        ++ first_moved target.entry.plan.now slips.now n }
-    ensures known { is_known (D.log journal.new.disk) ≡ is_known (D.log journal.old.disk) }
-    ensures faults { (D.log journal.new.disk).failed ≡ moving_faults result (D.log journal.old.disk).failed }
+    ensures ends { EndsMigration D.log result target.entry.plan.now slips.now journal.old journal.new }
+    ensures version { IsErrOf result StoreFault.NotVersion1 → ⊥ }
 {
     journal.stays_readable();
     let mut count = 0;
@@ -133,46 +97,22 @@ fn move_slip<D: Disk>(
     number: u64,
     target: Target<'_>,
     journal: &mut Journal<D>,
-) -> Result<(), MigrateFault>
+) -> Result<(), StoreFault>
     requires piece { IsTrue (is_piece target.plan.now slip.now.piece) }
     requires plan { journal.old.plan ≡ upgraded target.plan.now }
-    ensures ends { MovesOne result target.entry.plan.now number slip.now journal.old journal.new }
-    ensures moments { IsKnown (D.log journal.old.disk) →
-        AppendsEach journal.old.plan (kept_slips journal.old.plan journal.old.count (on (D.log journal.old.disk)))
-        journal.new.doubtful (taken result (moved target.entry.plan.now slip.now))
-        (on (D.log journal.old.disk)) (on (D.log journal.new.disk)) }
-    ensures kept { IsKnown (D.log journal.old.disk) →
-        kept_slips journal.new.plan journal.new.count (on (D.log journal.new.disk))
-        ≡ kept_after result (moved target.entry.plan.now slip.now)
-        (kept_slips journal.old.plan journal.old.count (on (D.log journal.old.disk))) }
-    ensures known { is_known (D.log journal.new.disk) ≡ is_known (D.log journal.old.disk) }
-    ensures faults { (D.log journal.new.disk).failed ≡ moving_faults result (D.log journal.old.disk).failed }
+    ensures { MovesOne D.log result target.entry.plan.now number slip.now journal.old journal.new }
 {
     journal.stays_readable();
     let result = match run_piece(alloc, target.upgrade, target.rings, slip.piece) {
         Ok(result) => result,
-        Err(TrialFault::Memory) => return Err(MigrateFault::Memory),
+        Err(TrialFault::Memory) => return Err(StoreFault::Memory),
         // A piece of the plan is one of its upgrade, so this doesn't come.
-        Err(TrialFault::BadPiece) => return Err(MigrateFault::BadSlip(number)),
+        Err(TrialFault::BadPiece) => return Err(StoreFault::BadSlip(number)),
     };
     if !is_true(slip, &result, target) {
-        return Err(MigrateFault::Disagrees(number));
+        return Err(StoreFault::Disagrees(number));
     }
-    match journal.append(&result) {
-        Ok(_) => Ok(()),
-        Err(fault) => Err(migrate_fault_of(fault)),
-    }
-}
-
-/// The fault of an append, as a migration answers it.
-fn migrate_fault_of(fault: JournalFault) -> MigrateFault
-    ensures { result ≡ migrate_fault_of fault }
-{
-    match fault {
-        JournalFault::Disk => MigrateFault::Disk,
-        JournalFault::Broken => MigrateFault::Broken,
-        _ => MigrateFault::OtherPlan,
-    }
+    journal.add(&result)
 }
 
 /// Whether a slip of a plan of version 1 has the sums that its trials give, which are those of the upgrade
