@@ -1,40 +1,40 @@
 -- What batches of pieces leave in the journal, one after another.
 use Rattle.std.proofs.Common.{◌≡◌, ◌∙◌, ◌≤◌, ◌+◌, ◌++◌, ◌&&◌, ℕ, Bool, true, false, not, cond, List, []}
 use Rattle.std.proofs.Common.{◌∷◌}
-use Rattle.std.proofs.Common.{Ok, Err, filter, length, refl, sym, ap, subst, arith, append_assoc}
-use Rattle.std.proofs.Common.{length-append}
+use Rattle.std.proofs.Common.{Ok, Err, Option, Some, None, filter, length, refl, sym, ap, subst, arith, append_assoc}
+use Rattle.std.proofs.Common.{append-nil, length-append}
 use Rattle.std.specs.Prelude.{IsSome, All}
 use Rattle.std.specs.List.{list_all}
-use Rattle.std.proofs.lemmas.List.{map-append}
+use Rattle.std.proofs.lemmas.List.{get_or_append_left, length-map, map-append}
 use Rattle.std.proofs.lemmas.List.Elements.{All-append, All-nil, All-head, All-tail}
 use Rattle.cut_lists.proofs.Parts.{count_first}
 use Rattle.cut_plan.specs.Values.{Values}
 use Rattle.cut_outcome.specs.declared.piece.Piece.{Piece}
 use Rattle.cut_outcome.specs.Outcome.{one_if}
-use Rattle.cut_disks.specs.State.{DiskState}
-use Rattle.cut_disks.specs.Log.{DiskLog, IsKnown}
+use Rattle.cut_disks.specs.Log.{DiskLog}
 use Rattle.cut_ledger.specs.declared.slip.Slip.{Slip}
 use Rattle.cut_ledger.specs.Contents.{is_in}
-use Rattle.cut_ledger.specs.World.{times_in}
+use Rattle.cut_ledger.specs.World.{pieces_of_slips, times_in}
+use Rattle.cut_journal.specs.declared.store_fault.StoreFault.{StoreFault}
+use Rattle.cut_journal.specs.declared.store_fault.StoreFault.TheVariants.{Broken, Disk}
+use Rattle.cut_journal.specs.Adding.{Adds, EndsAdding}
 use Rattle.cut_journal.specs.Journal.{JournalValue}
-use Rattle.cut_shares.specs.declared.share.fault.ShareFault.{ShareFault}
-use Rattle.cut_shares.specs.declared.share.fault.ShareFault.TheVariants.{Memory, OtherPlan, BadSlip, WorkMemory, Broken, Disk}
+use Rattle.cut_journal.proofs.Adding.{adding_stops, all_added}
 use Rattle.cut_shares.specs.declared.share.share.Share.{Share}
 use Rattle.cut_shares.specs.declared.share.piece_task.PieceTask.{PieceTask}
-use Rattle.cut_shares.specs.share.Appending.{Adds, NoneFailed}
-use Rattle.cut_shares.specs.share.inside.Batches.{EndsPieces, IsUpTo, IsWhole}
+use Rattle.cut_shares.specs.share.Share.{IsShareSlip}
+use Rattle.cut_shares.specs.share.inside.Batches.{AreWithin, EndsPieces, IsUpTo, IsWhole}
 use Rattle.cut_shares.specs.share.inside.Pieces.{IsSharePiece, own_times}
-use Rattle.cut_shares.specs.share.inside.Running.{EndsAppends, slip_at, slips_at}
+use Rattle.cut_shares.specs.share.inside.Running.{slip_at, slips_at}
 use Rattle.cut_shares.specs.share.inside.Tasks.{done_of, has_result, lost_of, pieces_of}
 use Rattle.cut_ledger.proofs.Law.{times-append}
-use Rattle.cut_shares.proofs.Appends.{added_more, added_doubtful, none_failed, none_before}
-use Rattle.cut_shares.proofs.Dealing.{own_at, times_one}
+use Rattle.cut_shares.proofs.Appends.{pieces_back, share_slips}
+use Rattle.cut_shares.proofs.Dealing.{own_at}
 
-own_front : (s : Share) (v : Values) (ps qs : List Piece) → All (IsSharePiece s v) (ps ++ qs)
-    → All (IsSharePiece s v) ps
-own_front s v [] qs own = All-nil (IsSharePiece s v)
-own_front s v (p ∷ ps) qs own =
-    grind (arith, All-head, own_front s v ps qs (All-tail (IsSharePiece s v) p (ps ++ qs) own))
+own_front : (s : Share) (v : Values) (xs ys : List Slip) → All (IsShareSlip s v) (xs ++ ys) → All (IsShareSlip s v) xs
+own_front s v xs ys own k d low =
+    subst (λ (x : Slip). IsShareSlip s v x) (get_or_append_left xs ys d k low)
+    (own k d (let sum = length-append xs ys in omega (arith, low, sum)))
 
 -- ---- the pieces of tasks, with and without a result
 
@@ -88,30 +88,26 @@ whole_more false done lost tasks before is = grind (arith, length-append)
 
 -- nothing is done yet
 pub none_yet : {D : Type 0} (log_of : D → DiskLog) (s : Share) (v : Values)
-    (all : List Piece) (log : JournalValue D) → Adds log_of [] log log
+    (all : List Piece) (log : JournalValue D) → Adds log_of [] None log log
     → IsUpTo log_of true s v all all log log
 none_yet log_of s v all log added = record {
   done = [];
   lost = [];
   parted = grind arith;
   sufficed = record { none = λ is. refl; some = λ other. absurd (let bad : true ≡ false = other in cc) };
-  kept = record { added = added; failed = none_failed [] log };
+  kept = added;
 }
 
 -- the results of one batch more are kept
 pub batch_more : {D : Type 0} (log_of : D → DiskLog) (whole done : Bool) (s : Share)
     (v : Values) (all left next : List Piece) (tasks : List PieceTask) (old mid new : JournalValue D)
-    → (IsKnown (log_of old.disk) → IsKnown (log_of mid.disk)) → IsUpTo log_of whole s v all left old mid
+    → IsUpTo log_of whole s v all left old mid
     → All (IsSharePiece s v) (pieces_of tasks)
     → ((t : ℕ) → times_in (pieces_of tasks) t + own_times s v next t ≡ own_times s v left t)
     → done ≡ list_all has_result tasks
-    → EndsAppends {T = Bool} log_of (Ok done) v (done_of tasks) mid new
+    → EndsAdding {T = Bool} log_of (Ok done) (slips_at v (done_of tasks)) mid new
     → IsUpTo log_of (whole && done) s v all next old new
-batch_more log_of whole done s v all left next tasks old mid new honest before own times is ends =
-    let joined : slips_at v (before.done ++ done_of tasks) ≡ slips_at v before.done ++ slips_at v (done_of tasks) =
-    map-append (slip_at v) before.done (done_of tasks) in
-    let both = added_more log_of (slips_at v before.done) (slips_at v (done_of tasks)) old mid new honest
-    before.kept.added before.kept.failed ends.0 ends.1 in
+batch_more log_of whole done s v all left next tasks old mid new before own times is ends =
     record {
       done = before.done ++ done_of tasks;
       lost = before.lost ++ lost_of tasks;
@@ -131,10 +127,9 @@ batch_more log_of whole done s v all left next tasks old mid new honest before o
             ));
       };
       sufficed = whole_more whole done before.lost tasks before.sufficed is;
-      kept = record {
-        added = subst (λ (l : List Slip). Adds log_of l old new) (sym joined) both.0;
-        failed = subst (λ (l : List Slip). NoneFailed l old new) (sym joined) both.1;
-      };
+      kept = all_added {T = Bool} log_of done (slips_at v before.done) (slips_at v (done_of tasks))
+          (slips_at v (before.done ++ done_of tasks)) old mid new (sym (map-append (slip_at v) before.done (done_of tasks)))
+          before.kept ends;
     }
 
 pub some_time : (s : Share) (v : Values) (ps : List Piece) → All (IsSharePiece s v) ps → 1 ≤ length ps
@@ -142,65 +137,72 @@ pub some_time : (s : Share) (v : Values) (ps : List Piece) → All (IsSharePiece
 some_time s v [] own some = absurd (omega arith)
 some_time s v (p ∷ ps) own some = grind (arith, All-head (IsSharePiece s v) p ps own, times_first p ps p.first)
 
+-- slips of the pieces so far
+within : (s : Share) (v : Values) (all done : List Piece) (slips later : List Slip) → All (IsSharePiece s v) done
+    → ((t : ℕ) → times_in done t ≤ own_times s v all t) → slips_at v done ≡ slips ++ later → AreWithin s v all slips
+within s v all done slips later own times are = record {
+  each = own_front s v slips later (subst (λ (l : List Slip). All (IsShareSlip s v) l) are (share_slips s v done own));
+  times = λ t. (let few = times t in omega (
+    arith,
+    few,
+    ap (λ (l : List Piece). times_in l t) (pieces_back v done),
+    ap (λ (l : List Slip). times_in (pieces_of_slips l) t) are,
+    ap (λ (l : List Piece). times_in l t) (map-append (λ (x : Slip). x.piece) slips later),
+    times-append (pieces_of_slips slips) (pieces_of_slips later) t,
+  ));
+}
+
 -- a batch ends the run
-pub batch_stops : {D : Type 0} (log_of : D → DiskLog) (e : ShareFault) (whole : Bool)
+pub batch_stops : {D : Type 0} (log_of : D → DiskLog) (e : StoreFault) (whole : Bool)
     (s : Share) (v : Values) (all left next : List Piece) (tasks : List PieceTask) (old mid new : JournalValue D)
-    → (IsKnown (log_of old.disk) → IsKnown (log_of mid.disk)) → IsUpTo log_of whole s v all left old mid
+    → IsUpTo log_of whole s v all left old mid
     → All (IsSharePiece s v) (pieces_of tasks)
     → ((t : ℕ) → times_in (pieces_of tasks) t + own_times s v next t ≡ own_times s v left t)
-    → EndsAppends {T = Bool} log_of (Err e) v (done_of tasks) mid new
+    → EndsAdding {T = Bool} log_of (Err e) (slips_at v (done_of tasks)) mid new
     → EndsPieces log_of (Err e) s v all old new
-batch_stops log_of Memory whole s v all left next tasks old mid new honest before own times ends = absurd ends
-batch_stops log_of OtherPlan whole s v all left next tasks old mid new honest before own times ends =
-    absurd ends
-batch_stops log_of (BadSlip n) whole s v all left next tasks old mid new honest before own times ends =
-    absurd ends
-batch_stops log_of WorkMemory whole s v all left next tasks old mid new honest before own times ends =
-    absurd ends
-batch_stops log_of Broken whole s v all left next tasks old mid new honest before own times ends =
-    let some : IsSome old.doubtful = subst (λ o. IsSome o) before.kept.failed.doubtful ends.1 in
-    let at = some_time s v (done_of tasks) (own_filtered s v has_result tasks own) ends.0 in (
-      some,
-      ends.2 ∙ before.kept.failed.untouched (none_before before.done v old mid before.kept.added.taken some),
-      (
-        at.0,
-        (let low = at.1 in let one = before.parted.times at.0 in let two = times at.0 in
-            omega (arith, low, one, two, times_parted tasks at.0)),
-      ),
-    )
-batch_stops log_of Disk whole s v all left next tasks old mid new honest before own times
-    (first, p, after, ends) =
-    let joined : slips_at v (before.done ++ first) ≡ slips_at v before.done ++ slips_at v first =
-    map-append (slip_at v) before.done first in
-    let both = added_doubtful log_of (slips_at v before.done) (slips_at v first) (slip_at v p) old mid new
-    honest before.kept.added before.kept.failed ends.1 ends.2 in
-    let here : All (IsSharePiece s v) (first ++ p ∷ after) =
-    subst (λ (l : List Piece). All (IsSharePiece s v) l) ends.0 (own_filtered s v has_result tasks own) in
-    let near : All (IsSharePiece s v) ((first ++ p ∷ []) ++ after) =
-    subst (λ (l : List Piece). All (IsSharePiece s v) l) (sym (append_assoc first (p ∷ []) after)) here in (
-      before.done ++ first,
-      p,
-      (
-        subst (λ (l : List Piece). All (IsSharePiece s v) l) (sym (append_assoc before.done first (p ∷ [])))
-            (All-append (IsSharePiece s v) before.done (first ++ p ∷ []) before.parted.done_own
-            (own_front s v (first ++ p ∷ []) after near)),
-        λ t. (let one = before.parted.times t in let two = times t in
-            omega (
-              arith,
-              one,
-              two,
-              times_parted tasks t,
-              ap (λ (l : List Piece). times_in l t) ends.0,
-              times-append first (p ∷ after) t,
-              times_first p after t,
-              times-append (before.done ++ first) (p ∷ []) t,
-              times-append before.done first t,
-              times_one p t,
-            )),
-        subst (λ (l : List Slip). Adds log_of l old new) (sym joined) both.0,
-        both.1,
-      ),
-    )
+batch_stops log_of e whole s v all left next tasks old mid new before own times ends =
+    by e ends
+    (adding_stops Bool Bool log_of e (slips_at v before.done) (slips_at v (done_of tasks)) []
+    (slips_at v (before.done ++ done_of tasks)) old mid new
+    (map-append (slip_at v) before.done (done_of tasks)
+    ∙ sym (append-nil (slips_at v before.done ++ slips_at v (done_of tasks)))) before.kept ends)
+  where
+    by : (e : StoreFault) → EndsAdding {T = Bool} log_of (Err e) (slips_at v (done_of tasks)) mid new
+        → EndsAdding {T = Bool} log_of (Err e) (slips_at v (before.done ++ done_of tasks)) old new
+        → EndsPieces log_of (Err e) s v all old new
+    by Broken (some, one, ends) (added, failed, is) =
+        let at = some_time s v (done_of tasks) (own_filtered s v has_result tasks own)
+        (let low = ends.1.0 in omega (arith, low, length-map (done_of tasks) (slip_at v))) in (
+          subst (λ (o : Option Slip). Adds log_of [] o old new) is.1.2.1
+              (subst (λ (l : List Slip). Adds log_of l failed old new) is.1.2.0 is.0),
+          is.1.1,
+          (
+            at.0,
+            (let low = at.1 in let one = before.parted.times at.0 in let two = times at.0 in
+                omega (arith, low, one, two, times_parted tasks at.0)),
+          ),
+        )
+    by Disk (some, one, ends) (added, failed, is) =
+        let slip : Slip = is.1.0 in (
+          added,
+          slip,
+          (
+            subst (λ (o : Option Slip). Adds log_of added o old new) is.1.2.1 is.0,
+            within s v all (before.done ++ done_of tasks) (added ++ slip ∷ []) is.1.1
+                (All-append (IsSharePiece s v) before.done (done_of tasks) before.parted.done_own
+                (own_filtered s v has_result tasks own))
+                (λ t. (let one = before.parted.times t in let two = times t in
+                omega (
+                  arith,
+                  one,
+                  two,
+                  times_parted tasks t,
+                  times-append before.done (done_of tasks) t,
+                )))
+                (is.1.2.0 ∙ sym (append_assoc added (slip ∷ []) is.1.1)),
+          ),
+        )
+    by fault (some, one, ends) is = absurd ends.1
 
 -- ---- one turn of the loop
 

@@ -1,6 +1,6 @@
 -- How a run of a share ends, by how its batches do.
 use Rattle.std.proofs.Common.{◌≡◌, ◌∙◌, ◌≤◌, ◌<◌, ◌++◌, ◌==◌, ◌&&◌, ℕ, Bool, true, false, not}
-use Rattle.std.proofs.Common.{cond, List, [], ◌∷◌, Ok, Err, filter, length, nat_lt, refl, sym, ap, subst, arith}
+use Rattle.std.proofs.Common.{cond, List, [], ◌∷◌, Some, None, Ok, Err, filter, length, nat_lt, refl, sym, ap, subst, arith}
 use Rattle.std.specs.Prelude.{IsTrue, All, Result, count_by}
 use Rattle.std.specs.List.{range_with_len}
 use Rattle.std.proofs.lemmas.Bool.{and_parts, ltb-true}
@@ -17,7 +17,6 @@ use Rattle.cut_plan.specs.Cells.{trial_count}
 use Rattle.cut_plan.specs.Values.{Values}
 use Rattle.cut_outcome.specs.declared.piece.Piece.{Piece}
 use Rattle.cut_outcome.specs.Outcome.{one_if}
-use Rattle.cut_disks.specs.State.{DiskState}
 use Rattle.cut_disks.specs.Log.{DiskLog}
 use Rattle.cut_ledger.specs.declared.slip.Slip.{Slip}
 use Rattle.cut_ledger.specs.Contents.{has, is_in_base, over_base}
@@ -28,17 +27,17 @@ use Rattle.cut_ledger.specs.World.{pieces_of_slips, times_in}
 use Rattle.cut_ledger.proofs.FillLemmas.{count_trials}
 use Rattle.cut_ledger.proofs.Law.{one_if-le}
 use Rattle.cut_journal.specs.Journal.{JournalValue}
-use Rattle.cut_shares.specs.declared.share.fault.ShareFault.{ShareFault}
-use Rattle.cut_shares.specs.declared.share.fault.ShareFault.TheVariants.{Memory, OtherPlan, BadSlip, WorkMemory, Broken, Disk}
+use Rattle.cut_journal.specs.declared.store_fault.StoreFault.{StoreFault}
+use Rattle.cut_journal.specs.declared.store_fault.StoreFault.TheVariants.{Memory, OtherPlan, BadSlip, WorkMemory, Broken, Disk}
+use Rattle.cut_journal.specs.Adding.{Adds}
 use Rattle.cut_shares.specs.declared.share.share.Share.{Share}
-use Rattle.cut_shares.specs.share.Appending.{Adds}
 use Rattle.cut_shares.specs.share.inside.Batches.{EndsPieces, IsUpTo}
-use Rattle.cut_shares.specs.share.inside.Opening.{IsFaultOfOpening}
 use Rattle.cut_shares.specs.share.inside.Pieces.{IsSharePiece, own_times}
 use Rattle.cut_shares.specs.share.Running.{AreOfShare, CanRun, EndsShare, is_lacking}
-use Rattle.cut_shares.specs.share.inside.Running.{slip_at, slips_at}
+use Rattle.cut_shares.specs.share.inside.Running.{IsFaultOfOpening, slips_at}
 use Rattle.cut_shares.specs.share.Share.{IsShareSlip, has_block, is_in_share, trials_of_share}
 use Rattle.cut_shares.specs.share.Blocks.{block_of}
+use Rattle.cut_shares.proofs.Appends.{pieces_back, share_slips}
 use Rattle.cut_shares.proofs.Batches.{some_time}
 use Rattle.cut_shares.proofs.PieceFacts.{in_trials}
 use Rattle.cut_shares.proofs.Turns.{once_in_range}
@@ -105,29 +104,7 @@ gap_times cover s v ss t = by (is_in_share s v t) refl
     by false is =
         grind (arith, own_if s v (gaps_of (over_base v ss)) t false is)
 
--- ---- the slips of pieces
-
-pub pieces_back : (v : Values) (ps : List Piece) → pieces_of_slips (slips_at v ps) ≡ ps
-pieces_back v [] = refl
-pieces_back v (p ∷ ps) = ap (λ (l : List Piece). p ∷ l) (pieces_back v ps)
-
-one_slip : (s : Share) (v : Values) (p : Piece) → IsSharePiece s v p → IsShareSlip s v (slip_at v p)
-one_slip s v p is = record {
-  true = record { piece = is.piece; totals = refl };
-  own = All-range_with_len (λ t. IsTrue (is_in_share s v t)) p.first p.count
-      (λ t from below. is.own t (in_trials p t from below));
-}
-
-one_of : (s : Share) (v : Values) (slip : Slip) → IsShareSlip s v slip → All (IsShareSlip s v) (slip ∷ [])
-one_of s v slip is = grind arith
-
-share_slips : (s : Share) (v : Values) (ps : List Piece) → All (IsSharePiece s v) ps
-    → All (IsShareSlip s v) (slips_at v ps)
-share_slips s v [] own = All-nil (IsShareSlip s v)
-share_slips s v (p ∷ ps) own =
-    All-append (IsShareSlip s v) (slip_at v p ∷ []) (slips_at v ps)
-    (one_of s v (slip_at v p) (one_slip s v p (All-head (IsSharePiece s v) p ps own)))
-    (share_slips s v ps (All-tail (IsSharePiece s v) p ps own))
+-- ---- the slips of a share
 
 of_share : (s : Share) (v : Values) (ss : List Slip) (ps : List Piece) → All (IsSharePiece s v) ps
     → ((t : ℕ) → times_in ps t ≤ one_if (is_lacking s v ss t)) → AreOfShare s v ss (slips_at v ps)
@@ -141,11 +118,6 @@ pub record IsBegun {D : Type 0} (s : Share) (v : Values) (ss : List Slip) (all :
   pub can : CanRun v ss old
   pub lack : (t : ℕ) → own_times s v all t ≡ one_if (is_lacking s v ss t)
 
-abbrev pub Ends : {D : Type 0} → (D → DiskLog) → Result ℕ ShareFault → Share → Values → List Slip
-    → JournalValue D → JournalValue D → Type 0
-Ends log_of result s v ss old new =
-    (added : List Slip) × (Adds log_of added old new × EndsShare result s v ss added old new)
-
 is_true : (b : Bool) (n : ℕ) → 1 ≤ n → n ≤ one_if b → IsTrue b
 is_true true n some few = refl
 is_true false n some few = absurd (omega arith)
@@ -157,11 +129,12 @@ none_in (p ∷ ps) t none = absurd (omega (arith, none))
 pub ends_whole : {D : Type 0} (log_of : D → DiskLog) (s : Share) (v : Values)
     (ss : List Slip) (all : List Piece) (old new : JournalValue D) (n : ℕ) → IsBegun s v ss all old
     → n ≡ length (trials_of_share s v) → IsUpTo log_of true s v all [] old new
-    → Ends log_of (Ok n) s v ss old new
+    → EndsShare log_of (Ok n) s v ss old new
 ends_whole log_of s v ss all old new n begun count upto = (
   slips_at v upto.done,
+  None,
   (
-    upto.kept.added,
+    upto.kept,
     (
       count,
       begun.can,
@@ -170,7 +143,7 @@ ends_whole log_of s v ss all old new n begun count upto = (
       λ t. (let one = upto.parted.times t in let two = begun.lack t in
           let none = none_in upto.lost t (upto.sufficed.none refl) in
           omega (arith, one, two, none, ap (λ (l : List Piece). times_in l t) (pieces_back v upto.done))),
-      upto.kept.failed,
+      refl,
     ),
   ),
 )
@@ -183,7 +156,7 @@ still_lacking s v ss ps t none lacks =
 
 pub ends_short : {D : Type 0} (log_of : D → DiskLog) (s : Share) (v : Values)
     (ss : List Slip) (all : List Piece) (old new : JournalValue D) → IsBegun s v ss all old
-    → IsUpTo log_of false s v all [] old new → Ends log_of (Err WorkMemory) s v ss old new
+    → IsUpTo log_of false s v all [] old new → EndsShare log_of (Err WorkMemory) s v ss old new
 ends_short log_of s v ss all old new begun upto =
     let at = some_time s v upto.lost upto.parted.lost_own (upto.sufficed.some refl) in
     let t : ℕ = at.0 in
@@ -195,68 +168,66 @@ ends_short log_of s v ss all old new begun upto =
     let lacks : IsTrue (is_lacking s v ss t) =
     is_true (is_lacking s v ss t) (times_in upto.lost t) low (omega (arith, one, two)) in (
       slips_at v upto.done,
+      None,
       (
-        upto.kept.added,
+        upto.kept,
         (
           begun.can,
           of_share s v ss upto.done upto.parted.done_own
               (λ i. (let here = upto.parted.times i in let lack = begun.lack i in omega (arith, here, lack))),
           (t, still_lacking s v ss upto.done t none lacks),
-          upto.kept.failed,
+          refl,
         ),
       ),
     )
 
-pub ends_fault : {D : Type 0} (log_of : D → DiskLog) (e : ShareFault) (s : Share)
+pub ends_fault : {D : Type 0} (log_of : D → DiskLog) (e : StoreFault) (s : Share)
     (v : Values) (ss : List Slip) (all : List Piece) (old new : JournalValue D) → IsBegun s v ss all old
-    → Adds log_of [] old old → EndsPieces log_of (Err e) s v all old new
-    → Ends log_of (Err e) s v ss old new
-ends_fault log_of Memory s v ss all old new begun none ends = absurd ends
-ends_fault log_of OtherPlan s v ss all old new begun none ends = absurd ends
-ends_fault log_of (BadSlip n) s v ss all old new begun none ends = absurd ends
-ends_fault log_of WorkMemory s v ss all old new begun none ends = absurd ends
-ends_fault {D} log_of Broken s v ss all old new begun none ends =
-    grind arith
-ends_fault log_of Disk s v ss all old new begun none (done, p, ends) = (
-  slips_at v done,
+    → EndsPieces log_of (Err e) s v all old new → EndsShare log_of (Err e) s v ss old new
+ends_fault log_of Broken s v ss all old new begun ends =
+    let lacks : IsTrue (is_lacking s v ss ends.2.0) = is_true (is_lacking s v ss ends.2.0) (own_times s v all ends.2.0)
+    ends.2.1 (let lack = begun.lack ends.2.0 in omega (arith, lack)) in
+    ([], None, (ends.0, (begun.can, (ends.2.0, lacks), ends.1, (refl, refl))))
+ends_fault log_of Disk s v ss all old new begun (added, slip, ends) = (
+  added,
+  Some slip,
   (
-    ends.2,
+    ends.0,
     (
       begun.can,
       (
-        slip_at v p,
+        slip,
         (
-          subst (λ (l : List Slip). AreOfShare s v ss l) (map-append (slip_at v) done (p ∷ []))
-              (of_share s v ss (done ++ p ∷ []) ends.0
-              (λ t. (let one = ends.1 t in let two = begun.lack t in omega (arith, one, two)))),
-          ends.3,
+          record {
+            each = ends.1.each;
+            once = λ t. (let few = ends.1.times t in let lack = begun.lack t in omega (arith, few, lack));
+          },
+          refl,
         ),
       ),
     ),
   ),
 )
+ends_fault log_of fault s v ss all old new begun ends = absurd ends
 
 -- ---- as the run has them
 
 -- it does not begin
-pub ends_unbegun : {D : Type 0} (log_of : D → DiskLog) (e : ShareFault) (s : Share)
+pub ends_unbegun : {D : Type 0} (log_of : D → DiskLog) (e : StoreFault) (s : Share)
     (v : Values) (ss : List Slip) (log : JournalValue D) → IsFaultOfOpening v ss e → log.plan ≡ v
-    → Adds log_of [] log log → Ends log_of (Err e) s v ss log log
-ends_unbegun log_of Memory s v ss log is plan none = ([], (none, (plan, refl, refl)))
-ends_unbegun log_of OtherPlan s v ss log is plan none = absurd is
-ends_unbegun log_of (BadSlip n) s v ss log is plan none = ([], (none, (plan, is, refl, refl)))
-ends_unbegun log_of WorkMemory s v ss log is plan none = absurd is
-ends_unbegun log_of Broken s v ss log is plan none = absurd is
-ends_unbegun log_of Disk s v ss log is plan none = absurd is
+    → Adds log_of [] None log log → EndsShare log_of (Err e) s v ss log log
+ends_unbegun log_of Memory s v ss log is plan none = ([], None, (none, (plan, (refl, refl))))
+ends_unbegun log_of (BadSlip n) s v ss log is plan none = ([], None, (none, (plan, is, (refl, refl))))
+ends_unbegun log_of fault s v ss log is plan none = absurd is
 
 -- or the journal is of another plan
 pub ends_other : {D : Type 0} (log_of : D → DiskLog) (s : Share) (v : Values)
-    (ss : List Slip) (log : JournalValue D) → (log.plan ≡ v → ⊥) → Adds log_of [] log log
-    → Ends log_of (Err OtherPlan) s v ss log log
-ends_other log_of s v ss log other none = ([], (none, (other, refl, refl)))
+    (ss : List Slip) (log : JournalValue D) → (log.plan ≡ v → ⊥) → Adds log_of [] None log log
+    → EndsShare log_of (Err OtherPlan) s v ss log log
+ends_other log_of s v ss log other none = ([], None, (none, (other, (refl, refl))))
 
 -- the batches, said of the run's share and plan
-pub ends_at : {D : Type 0} (log_of : D → DiskLog) (result : Result Bool ShareFault)
+pub ends_at : {D : Type 0} (log_of : D → DiskLog) (result : Result Bool StoreFault)
     (s now : Share) (v w : Values) (all : List Piece) (old new : JournalValue D) → now ≡ s → w ≡ v
     → EndsPieces log_of result now w all old new → EndsPieces log_of result s v all old new
 ends_at log_of result s now v w all old new share plan ends =

@@ -14,4 +14,4 @@ pub mod Goods
 pub mod Ends
 pub mod RunSums
 pub mod LawsOfJoins
-pub mod Appendings
+pub mod Joins

@@ -2,7 +2,5 @@ pub mod Bounds
 pub mod Blocks
 pub mod Share
 pub mod Laws
-pub mod FaultCode
-pub mod Appending
 pub mod Running
 pub mod inside

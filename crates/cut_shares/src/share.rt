@@ -5,13 +5,11 @@
 mod append;
 mod batch;
 mod env;
-mod fault;
 pub mod laws;
 mod piece_task;
 mod share;
 mod share_pieces;
 mod share_run;
 
-pub use fault::ShareFault;
 pub use share::Share;
 pub use share_run::ShareRun;

@@ -1,7 +1,6 @@
 -- What a run of a share leaves in the journal, by how it ends.
 use Rattle.std.specs.Prelude.{◌≡◌, ◌≢◌, ◌≤◌, ◌++◌, ◌&&◌, ℕ, Bool, not, List, [], ◌∷◌, length, All, IsTrue}
-use Rattle.std.specs.Prelude.{IsSome, Result, Ok, Err}
-use Rattle.cut_faults.specs.Failures.{one_more}
+use Rattle.std.specs.Prelude.{IsSome, Option, None, Some, Result, Ok, Err}
 use Rattle.cut_plan.specs.Values.{Values}
 use Rattle.cut_outcome.specs.Outcome.{one_if}
 use Rattle.cut_ledger.specs.declared.slip.Slip.{Slip}
@@ -9,11 +8,12 @@ use Rattle.cut_ledger.specs.Contents.{is_in_base}
 use Rattle.cut_ledger.specs.Slips.{AreGood, IsFirstBad}
 use Rattle.cut_ledger.specs.World.{times_in, pieces_of_slips}
 use Rattle.cut_journal.specs.Journal.{JournalValue}
-use Rattle.cut_shares.specs.declared.share.fault.ShareFault.{ShareFault}
-use Rattle.cut_shares.specs.declared.share.fault.ShareFault.TheVariants.{Memory, OtherPlan, BadSlip, WorkMemory, Broken, Disk}
+use Rattle.cut_disks.specs.Log.{DiskLog}
+use Rattle.cut_journal.specs.declared.store_fault.StoreFault.{StoreFault}
+use Rattle.cut_journal.specs.declared.store_fault.StoreFault.TheVariants.{Memory, OtherPlan, BadSlip, WorkMemory, Broken, Disk}
+use Rattle.cut_journal.specs.Adding.{Adds, AddsNothing}
 use Rattle.cut_shares.specs.declared.share.share.Share.{Share}
 use Rattle.cut_shares.specs.share.Share.{IsShareSlip, is_in_share, trials_of_share}
-use Rattle.cut_shares.specs.share.Appending.{NoneFailed, OneFailed}
 
 -- whether a trial is of the share, and in none of these slips
 abbrev pub is_lacking : Share → Values → List Slip → ℕ → Bool
@@ -38,26 +38,27 @@ pub record CanRun {D : Type 0} (v : Values) (ss : List Slip) (log : JournalValue
 abbrev pub IsNotDone : Share → Values → List Slip → Type 0
 IsNotDone s v ss = (t : ℕ) × IsTrue (is_lacking s v ss t)
 
--- how a run of a share ends, by its answer, if these slips were added: the share has n trials, and all are held now; or
--- why it stopped
-abbrev pub EndsShare : {D : Type 0} → Result ℕ ShareFault → Share → Values → List Slip → List Slip → JournalValue D
-    → JournalValue D → Type 0
-EndsShare (Ok n) s v ss added old new =
-    (n ≡ length (trials_of_share s v)) × CanRun v ss old × AreOfShare s v ss added × AreWhole s v ss added
-    × NoneFailed added old new
-EndsShare (Err OtherPlan) s v ss added old new = (old.plan ≢ v) × (added ≡ []) × (new ≡ old)
-EndsShare (Err (BadSlip n)) s v ss added old new =
-    (old.plan ≡ v) × IsFirstBad v ss n × (added ≡ []) × (new ≡ old)
-EndsShare (Err Memory) s v ss added old new = (old.plan ≡ v) × (added ≡ []) × (new ≡ old)
-EndsShare (Err WorkMemory) s v ss added old new =
-    CanRun v ss old × AreOfShare s v ss added × IsNotDone s v (ss ++ added) × NoneFailed added old new
-EndsShare (Err Broken) s v ss added old new =
-    CanRun v ss old × IsNotDone s v ss × IsSome old.doubtful × (added ≡ []) × (new ≡ old)
-EndsShare (Err Disk) s v ss added old new =
-    CanRun v ss old
-    × ((slip : Slip) × (AreOfShare s v ss (added ++ slip ∷ []) × OneFailed slip old new))
+-- how a run of a share ends, by its answer, if these slips were added to this journal, and the disk failed at this one: the
+-- share has n trials, and all are held now; or why it stopped
+abbrev pub StopsRunning : {D : Type 0} → Result ℕ StoreFault → Share → Values → List Slip → JournalValue D → List Slip
+    → Option Slip → Type 0
+StopsRunning (Ok n) s v ss old added failed =
+    (n ≡ length (trials_of_share s v)) × CanRun v ss old × AreOfShare s v ss added × AreWhole s v ss added × (failed ≡ None)
+StopsRunning (Err OtherPlan) s v ss old added failed = (old.plan ≢ v) × AddsNothing added failed
+StopsRunning (Err (BadSlip n)) s v ss old added failed =
+    (old.plan ≡ v) × IsFirstBad v ss n × AddsNothing added failed
+StopsRunning (Err Memory) s v ss old added failed = (old.plan ≡ v) × AddsNothing added failed
+StopsRunning (Err WorkMemory) s v ss old added failed =
+    CanRun v ss old × AreOfShare s v ss added × IsNotDone s v (ss ++ added) × (failed ≡ None)
+StopsRunning (Err Broken) s v ss old added failed =
+    CanRun v ss old × IsNotDone s v ss × IsSome old.doubtful × AddsNothing added failed
+StopsRunning (Err Disk) s v ss old added failed =
+    CanRun v ss old × ((slip : Slip) × (AreOfShare s v ss (added ++ slip ∷ []) × (failed ≡ Some slip)))
+StopsRunning (Err fault) s v ss old added failed = ⊥
 
--- how many calls of the disk failed after a run: one more exactly where it answers that fault
-abbrev pub running_faults : {T : Type 0} → Result T ShareFault → ℕ → ℕ
-running_faults (Err Disk) n = one_more n
-running_faults result n = n
+-- and what is on its disk then: one append of each slip that was added
+abbrev pub EndsShare : {D : Type 0} → (D → DiskLog) → Result ℕ StoreFault → Share → Values → List Slip → JournalValue D
+    → JournalValue D → Type 0
+EndsShare log result s v ss old new =
+    (added : List Slip) × (failed : Option Slip)
+    × (Adds log added failed old new × StopsRunning result s v ss old added failed)

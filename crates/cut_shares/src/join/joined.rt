@@ -5,37 +5,23 @@ ghost use Rattle.std.specs.List.Sorted.{IsNonDecreasingBy, IsPermutation};
 ghost use Rattle.cut_outcome.specs.Sum.{is_piece};
 ghost use Rattle.cut_ledger.specs.Slips.{AreGood};
 ghost use Rattle.cut_shares.specs.join.Joined.{joined};
-ghost use Rattle.cut_shares.specs.join.Joining.{IsJudgedBy};
 ghost use Rattle.cut_shares.specs.join.inside.Merging.{AreAscending, IsSmall, adjoins, with_next, with_slip};
 
-use crate::join::JoinFault;
-use cut_ledger::{Ledger, Slip, SlipsFault};
+use cut_journal::AcceptedSlips;
+use cut_ledger::Slip;
 use cut_outcome::Piece;
 use cut_plan::{Plan, laws};
 use std::alloc::{AllocError, Global};
 
-/// The slips of a plan, joined, if a ledger can begin with them.
-pub(crate) fn joined(alloc: Global, plan: &Plan, slips: &[Slip]) -> Result<Vec<Slip>, JoinFault>
-    ensures joined { IfOk result (λ found. found.items ≡ joined plan.now slips.now) }
-    ensures good { IfOk result (λ found. AreGood plan.now found.items) }
-    ensures judged { IsJudgedBy result plan.now slips.now }
+/// Slips that were accepted, joined.
+pub(crate) fn joined(alloc: Global, accepted: &AcceptedSlips<'_>) -> Result<Vec<Slip>, AllocError>
+    ensures joined { IfOk result (λ found. found.items ≡ joined accepted.now.plan accepted.now.slips) }
+    ensures good { IfOk result (λ found. AreGood accepted.now.plan found.items) }
 {
+    let plan = accepted.plan();
     laws::plans_are_accepted(plan);
-    judge(alloc, plan, slips)?;
-    let ascending = ascending(alloc, slips)?;
-    Ok(merged(alloc, plan, &ascending)?)
-}
-
-/// Judges the slips of a plan as one list, as `join` does before it writes. The first with which no ledger begins,
-/// after those before it, is reported by its number.
-pub fn judge(alloc: Global, plan: &Plan, slips: &[Slip]) -> Result<(), JoinFault>
-    ensures { IsJudgedBy result plan.now slips.now }
-{
-    match Ledger::from_slips(alloc, plan.try_clone(alloc)?, slips) {
-        Ok(_) => Ok(()),
-        Err(SlipsFault::BadSlip(number)) => Err(JoinFault::BadSlip(number)),
-        Err(SlipsFault::Memory) => Err(JoinFault::Memory),
-    }
+    let ascending = ascending(alloc, accepted.slips())?;
+    merged(alloc, plan, &ascending)
 }
 
 /// The slips in the order of their first trials.

@@ -1,18 +1,16 @@
-ghost use Rattle.std.specs.Prelude.{◌≡◌, ◌↔◌, ◌≤◌, ◌∷◌, IfOk, length};
+ghost use Rattle.std.specs.Prelude.{◌≡◌, ◌≤◌, ◌∷◌, IfOk, length};
 ghost use Rattle.std.specs.List.{list_all};
-ghost use Rattle.cut_disks.specs.Log.{is_known};
-ghost use Rattle.cut_shares.specs.share.Running.{running_faults};
-ghost use Rattle.cut_shares.specs.share.inside.Running.{EndsAppends};
+ghost use Rattle.cut_journal.specs.Adding.{EndsAdding};
+ghost use Rattle.cut_shares.specs.share.inside.Running.{slips_at};
 ghost use Rattle.cut_shares.specs.share.inside.Batches.{EndsPieces};
 ghost use Rattle.cut_shares.specs.share.inside.Tasks.{done_of, has_result, pieces_of};
 
-use crate::share::ShareFault;
 use crate::share::append::append_all;
 use crate::share::env::ShareEnv;
 use crate::share::piece_task::{PieceTask, are_done, deal_pieces};
 use crate::share::share_pieces::SharePieces;
 use cut_disks::Disk;
-use cut_journal::Journal;
+use cut_journal::{Journal, StoreFault};
 use cut_outcome::Gate;
 use std::sync::Wait;
 use std::thread::Threads;
@@ -25,14 +23,12 @@ pub(crate) fn run_pieces<D: Disk, G: Gate + Sync, R: Threads + Wait + Sync>(
     pieces: SharePieces<'_>,
     tasks: &mut [PieceTask],
     journal: &mut Journal<D>,
-) -> Result<bool, ShareFault>
+) -> Result<bool, StoreFault>
     requires some { 1 ≤ length tasks.old }
     requires plan { env.now.plan.now ≡ pieces.plan.now }
     requires own { journal.old.plan ≡ pieces.plan.now }
-    ensures ends { EndsPieces D.log result pieces.entry.share pieces.entry.plan.now
+    ensures { EndsPieces D.log result pieces.entry.share pieces.entry.plan.now
         (pieces.entry.rest ∷ pieces.entry.later.now) journal.old journal.new }
-    ensures known { is_known (D.log journal.new.disk) ≡ is_known (D.log journal.old.disk) }
-    ensures faults { (D.log journal.new.disk).failed ≡ running_faults result (D.log journal.old.disk).failed }
 {
     journal.stays_readable();
     let mut pieces = pieces;
@@ -53,14 +49,11 @@ fn run_batch<D: Disk, G: Gate + Sync, R: Threads + Wait + Sync>(
     env: &ShareEnv<'_, G>,
     tasks: &mut [PieceTask],
     journal: &mut Journal<D>,
-) -> Result<bool, ShareFault>
+) -> Result<bool, StoreFault>
     requires { journal.old.plan ≡ env.now.plan.now }
     ensures pieces { pieces_of tasks.new ≡ pieces_of tasks.old }
-    ensures ends { EndsAppends D.log result journal.old.plan (done_of tasks.new)
-        journal.old journal.new }
+    ensures ends { EndsAdding D.log result (slips_at journal.old.plan (done_of tasks.new)) journal.old journal.new }
     ensures done { IfOk result (λ is_done. is_done ≡ list_all has_result tasks.new) }
-    ensures known { is_known (D.log journal.new.disk) ≡ is_known (D.log journal.old.disk) }
-    ensures faults { (D.log journal.new.disk).failed ≡ running_faults result (D.log journal.old.disk).failed }
 {
     env.run_all(rt, tasks);
     append_all(rt, env.gate, journal, tasks)?;

@@ -1,19 +1,18 @@
 ghost use Rattle.std.specs.Prelude.{◌≡◌, ◌≤◌, All, IfErr, IfOk, IsTrue, OnOk};
-ghost use Rattle.cut_disks.specs.Log.{is_known};
 ghost use Rattle.cut_outcome.specs.Sum.{is_piece};
 ghost use Rattle.cut_ledger.specs.Contents.{over_base};
 ghost use Rattle.cut_ledger.specs.Gaps.{gaps_of};
 ghost use Rattle.cut_ledger.specs.Slips.{AreGood};
-ghost use Rattle.cut_shares.specs.share.inside.Opening.{IsFaultOfOpening};
+ghost use Rattle.cut_shares.specs.share.inside.Running.{IsFaultOfOpening};
 
+use crate::share::Share;
 use crate::share::batch::run_pieces;
 use crate::share::env::ShareEnv;
 use crate::share::piece_task::new_tasks;
 use crate::share::share_pieces::SharePieces;
-use crate::share::{Share, ShareFault};
 use cut_disks::Disk;
-use cut_journal::Journal;
-use cut_ledger::{Ledger, Slip, SlipsFault, laws};
+use cut_journal::{Journal, StoreFault};
+use cut_ledger::{Ledger, Slip, laws};
 use cut_outcome::{Gate, Piece};
 use cut_plan::Plan;
 use cut_rings::Rings;
@@ -41,10 +40,8 @@ pub struct ShareRun<'a, G> {
 }
 
 impl<G: Gate + Sync> ShareRun<'_, G> {
-    ghost use Rattle.std.specs.Prelude.{◌↔◌, ◌≢◌, List, IsErrOf};
-    ghost use Rattle.cut_ledger.specs.declared.slip.Slip.{Slip};
-    ghost use Rattle.cut_shares.specs.share.Appending.{Adds};
-    ghost use Rattle.cut_shares.specs.share.Running.{EndsShare, running_faults};
+    ghost use Rattle.std.specs.Prelude.{◌↔◌, ◌≢◌, IsErrOf};
+    ghost use Rattle.cut_shares.specs.share.Running.{EndsShare};
 
     /// Runs the trials of the share that the slips lack, and keeps them in the journal. Returns how many trials the
     /// share has, all of which are held then.
@@ -57,17 +54,14 @@ impl<G: Gate + Sync> ShareRun<'_, G> {
         rt: &R,
         alloc: Global,
         journal: &mut Journal<D>,
-    ) -> Result<u32, ShareFault>
-        ensures other_plan { IsErrOf result ShareFault.OtherPlan ↔ (journal.old.plan ≢ self.entry.plan.now) }
-        ensures ends { (added : List Slip) × (Adds D.log added journal.old journal.new
-            × EndsShare result self.entry.share self.entry.plan.now self.entry.slips.now added
-            journal.old journal.new) }
-        ensures known { is_known (D.log journal.new.disk) ≡ is_known (D.log journal.old.disk) }
-        ensures faults { (D.log journal.new.disk).failed ≡ running_faults result (D.log journal.old.disk).failed }
+    ) -> Result<u32, StoreFault>
+        ensures other_plan { IsErrOf result StoreFault.OtherPlan ↔ (journal.old.plan ≢ self.entry.plan.now) }
+        ensures ends { EndsShare D.log result self.entry.share self.entry.plan.now self.entry.slips.now
+            journal.old journal.new }
     {
         journal.stays_readable();
         if !journal.plan().same(self.plan) {
-            return Err(ShareFault::OtherPlan);
+            return Err(StoreFault::OtherPlan);
         }
         laws::gaps_are_what_is_not_held();
         let gaps = gaps_over(alloc, self.plan, self.slips)?;
@@ -88,21 +82,18 @@ impl<G: Gate + Sync> ShareRun<'_, G> {
         if run_pieces(rt, &env, pieces, tasks.as_mut_slice(), journal)? {
             Ok(all)
         } else {
-            Err(ShareFault::WorkMemory)
+            Err(StoreFault::WorkMemory)
         }
     }
 }
 
 /// The gaps of the ledger over slips: the trials of the plan that they lack.
-fn gaps_over(alloc: Global, plan: &Plan, slips: &[Slip]) -> Result<Vec<Piece>, ShareFault>
+fn gaps_over(alloc: Global, plan: &Plan, slips: &[Slip]) -> Result<Vec<Piece>, StoreFault>
     ensures ok { IfOk result (λ gaps. gaps.items ≡ gaps_of (over_base plan.now slips.now)) }
     ensures pieces { IfOk result (λ gaps. All (λ p. IsTrue (is_piece plan.now p)) gaps.items) }
     ensures good { OnOk result (AreGood plan.now slips.now) }
     ensures err { IfErr result (IsFaultOfOpening plan.now slips.now) }
 {
-    match Ledger::from_slips(alloc, plan.try_clone(alloc)?, slips) {
-        Ok(ledger) => Ok(ledger.gaps(alloc)?),
-        Err(SlipsFault::BadSlip(number)) => Err(ShareFault::BadSlip(number)),
-        Err(SlipsFault::Memory) => Err(ShareFault::Memory),
-    }
+    let ledger = Ledger::from_slips(alloc, plan.try_clone(alloc)?, slips)?;
+    Ok(ledger.gaps(alloc)?)
 }

@@ -4,13 +4,14 @@ use Rattle.std.proofs.lemmas.Result.{err_from_is_err_and}
 use Rattle.cut_plan.specs.Values.{Values}
 use Rattle.cut_outcome.specs.declared.piece.Piece.{Piece}
 use Rattle.cut_ledger.specs.World.{times_in}
-use Rattle.cut_shares.specs.declared.share.fault.ShareFault.{ShareFault}
+use Rattle.cut_journal.specs.declared.store_fault.StoreFault.{StoreFault}
+use Rattle.cut_journal.specs.Adding.{EndsAdding}
+use Rattle.cut_journal.proofs.Adding.{none_added}
 use Rattle.cut_shares.specs.declared.share.piece_task.PieceTask.{PieceTask}
 use Rattle.cut_shares.specs.share.inside.Batches.{EndsPieces, IsUpTo}
 use Rattle.cut_shares.specs.share.inside.Pieces.{own_times}
-use Rattle.cut_shares.specs.share.inside.Running.{EndsAppends}
+use Rattle.cut_shares.specs.share.inside.Running.{slips_at}
 use Rattle.cut_shares.specs.share.inside.Tasks.{done_of, pieces_of}
-use Rattle.cut_shares.proofs.Appends.{none_added}
 use Rattle.cut_shares.proofs.Batches.{batch_more, batch_stops, deal_of, none_yet, up_to_end}
 use Rattle.cut_shares.proofs.share.batch.run_pieces.Goals as goal
 
@@ -23,8 +24,8 @@ loop-pieces-init g c =
           c.args.journal.now c.stays_readable.ensures.sound),
     )
 
-pub returns-then-count-eq0-clause-ends : goal.returns-then-count-eq0-clause-ends
-returns-then-count-eq0-clause-ends g c =
+pub returns-then-count-eq0 : goal.returns-then-count-eq0
+returns-then-count-eq0 g c =
     let held = c.loop-pieces.invariant in
     let start = c.args.pieces in
     let mid = c.loop-pieces.pieces in
@@ -41,8 +42,8 @@ returns-then-count-eq0-clause-ends g c =
     ∙ c.deal_pieces-count.ensures.taken t)
     (c.deal_pieces-count.ensures.none low)
 
-pub returns-in_err-is_done-clause-ends : goal.returns-in_err-is_done-clause-ends
-returns-in_err-is_done-clause-ends g c =
+pub returns-in_err-is_done : goal.returns-in_err-is_done
+returns-in_err-is_done g c =
     let p = err_from_is_err_and c.from_residual.result c.from_residual.ensures.1 in
     let held = c.loop-pieces.invariant in
     let start = c.args.pieces in
@@ -55,19 +56,19 @@ returns-in_err-is_done-clause-ends g c =
     let deal = deal_of start.share mid.share start.plan.now mid.plan.now dealt (pieces_of tasks)
     (mid.rest ∷ mid.later.now) (new.rest ∷ new.later.now) held.share held.plan are c.deal_pieces-count.ensures.own
     c.deal_pieces-count.ensures.taken in
-    let e : ShareFault = c.in_err-is_done.field-0.0 in
-    let one : EndsAppends {T = Bool} g.D.Disk.log (Err e) c.loop-pieces.journal.plan
-    (done_of tasks) c.loop-pieces.journal c.run_batch.new.journal = c.in_err-is_done.ensures.ends in
-    let two : EndsAppends {T = Bool} g.D.Disk.log (Err e) start.plan.now (done_of tasks)
+    let e : StoreFault = c.in_err-is_done.field-0.0 in
+    let one : EndsAdding {T = Bool} g.D.Disk.log (Err e) (slips_at c.loop-pieces.journal.plan (done_of tasks))
+    c.loop-pieces.journal c.run_batch.new.journal = c.in_err-is_done.ensures.ends in
+    let two : EndsAdding {T = Bool} g.D.Disk.log (Err e) (slips_at start.plan.now (done_of tasks))
     c.loop-pieces.journal c.run_batch.new.journal =
-    subst (λ (v : Values). EndsAppends {T = Bool} g.D.Disk.log (Err e) v (done_of tasks)
-    c.loop-pieces.journal c.run_batch.new.journal) (held.upto.kept.added.plan ∙ c.requires.own) one in
-    subst (λ (x : Result Bool ShareFault). EndsPieces g.D.Disk.log x start.share start.plan.now
+    subst (λ (v : Values). EndsAdding {T = Bool} g.D.Disk.log (Err e) (slips_at v (done_of tasks))
+    c.loop-pieces.journal c.run_batch.new.journal) (held.upto.kept.plan ∙ c.requires.own) one in
+    subst (λ (x : Result Bool StoreFault). EndsPieces g.D.Disk.log x start.share start.plan.now
     (start.rest ∷ start.later.now) log c.run_batch.new.journal)
-    (sym (p.1 ∙ ap (λ (x : ShareFault). Err x) p.2))
+    (sym (p.1 ∙ ap (λ (x : StoreFault). Err x) p.2))
     (batch_stops g.D.Disk.log e c.loop-pieces.is_whole start.share start.plan.now
     (start.rest ∷ start.later.now) (mid.rest ∷ mid.later.now) (new.rest ∷ new.later.now) tasks log
-    c.loop-pieces.journal c.run_batch.new.journal (λ h. held.known ∙ h) held.upto deal.own deal.times two)
+    c.loop-pieces.journal c.run_batch.new.journal held.upto deal.own deal.times two)
 
 pub loop-pieces-preserved : goal.loop-pieces-preserved
 loop-pieces-preserved g c =
@@ -83,22 +84,20 @@ loop-pieces-preserved g c =
     (mid.rest ∷ mid.later.now) (new.rest ∷ new.later.now) held.share held.plan are c.deal_pieces-count.ensures.own
     c.deal_pieces-count.ensures.taken in
     let done : Bool = c.in_ok-is_done.is_done in
-    let one : EndsAppends {T = Bool} g.D.Disk.log (Ok done) c.loop-pieces.journal.plan
-    (done_of tasks) c.loop-pieces.journal c.run_batch.new.journal = c.in_ok-is_done.ensures.ends in
-    let two : EndsAppends {T = Bool} g.D.Disk.log (Ok done) start.plan.now (done_of tasks)
+    let one : EndsAdding {T = Bool} g.D.Disk.log (Ok done) (slips_at c.loop-pieces.journal.plan (done_of tasks))
+    c.loop-pieces.journal c.run_batch.new.journal = c.in_ok-is_done.ensures.ends in
+    let two : EndsAdding {T = Bool} g.D.Disk.log (Ok done) (slips_at start.plan.now (done_of tasks))
     c.loop-pieces.journal c.run_batch.new.journal =
-    subst (λ (v : Values). EndsAppends {T = Bool} g.D.Disk.log (Ok done) v (done_of tasks)
-    c.loop-pieces.journal c.run_batch.new.journal) (held.upto.kept.added.plan ∙ c.requires.own) one in
+    subst (λ (v : Values). EndsAdding {T = Bool} g.D.Disk.log (Ok done) (slips_at v (done_of tasks))
+    c.loop-pieces.journal c.run_batch.new.journal) (held.upto.kept.plan ∙ c.requires.own) one in
     let more : IsUpTo g.D.Disk.log (c.loop-pieces.is_whole && done) start.share start.plan.now
     (start.rest ∷ start.later.now) (new.rest ∷ new.later.now) log c.run_batch.new.journal =
     batch_more g.D.Disk.log c.loop-pieces.is_whole done start.share start.plan.now
     (start.rest ∷ start.later.now) (mid.rest ∷ mid.later.now) (new.rest ∷ new.later.now) tasks log
-    c.loop-pieces.journal c.run_batch.new.journal (λ h. held.known ∙ h) held.upto deal.own deal.times
+    c.loop-pieces.journal c.run_batch.new.journal held.upto deal.own deal.times
     c.in_ok-is_done.ensures.done two in
     record {
       plan = c.deal_pieces-count.ensures.plan ∙ held.plan;
       share = c.deal_pieces-count.ensures.share ∙ held.share;
       upto = more;
-      known = c.run_batch.ensures.known ∙ held.known;
-      faults = c.in_ok-is_done.ensures.faults ∙ held.faults;
     }
