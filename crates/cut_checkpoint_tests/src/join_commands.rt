@@ -4,7 +4,7 @@
 use cut_commands::CliFault;
 use cut_disks::{FaultyDisk, Tear};
 use cut_files::{MemoryFiles, SystemFiles};
-use cut_journal::Journal;
+use cut_journal::{AcceptedSlips, Journal};
 use cut_ledger::Slip;
 use cut_machines::{Joined, JoinedFiles, join};
 use cut_outcome::{Piece, Totals};
@@ -66,9 +66,10 @@ fn checkpoint_of(alloc: Global, pieces: &[(u32, u32)]) -> Result<FaultyDisk, Fai
         .iter()
         .map(|piece| slip_of(*piece))
         .collect::<Vec<Slip>>(alloc)?;
+    let accepted = AcceptedSlips::judge(alloc, &plan, slips)?;
     match Journal::create(alloc, failing_disk(alloc, b"", 0)?, &plan) {
         Ok(mut journal) => {
-            join_slips(alloc, &plan, &slips, &mut journal)?;
+            join_slips(alloc, &accepted, &mut journal)?;
             Ok(journal.into_disk())
         }
         Err((fault, _disk)) => Err(fault)?,

@@ -10,31 +10,37 @@ use Rattle.cut_plan.specs.Failing.{version_of}
 use Rattle.cut_plan.specs.Targets.{upgraded}
 use Rattle.cut_plan.specs.Values.{Values}
 use Rattle.cut_disks.specs.State.{DiskState, synced}
-use Rattle.cut_disks.specs.Log.{DiskLog, Goes, IsKnown, is_known, on}
+use Rattle.cut_disks.specs.Log.{DiskLog, Goes, Knows, is_known, on}
 use Rattle.cut_files.specs.Place.{Place}
+use Rattle.cut_outcome.specs.Sum.{each_number}
 use Rattle.cut_ledger.specs.declared.slip.Slip.{Slip}
 use Rattle.cut_ledger.specs.Slips.{AreGood}
 use Rattle.cut_journal.specs.declared.fault.JournalFault.{JournalFault}
 use Rattle.cut_journal.specs.declared.fault.JournalFault.TheVariants as journal
-use Rattle.cut_journal.specs.Journal.{AppendsEach, IsFileOf, JournalValue, fault_counts, kept_slips}
+use Rattle.cut_journal.specs.Adding.{Adds, AddsNothing, failures_after}
+use Rattle.cut_journal.specs.Journal.{IsFileOf, JournalValue, fault_counts}
 use Rattle.cut_journal.specs.Opening.{IsClaimed, IsNotClaimed, IsOpeningFaultOf, IsRead, IsRefused, IsReopened, MayNotClaim}
-use Rattle.cut_migration.specs.declared.fault.MigrateFault.{MigrateFault}
-use Rattle.cut_migration.specs.declared.fault.MigrateFault.TheVariants as migration
+use Rattle.cut_journal.specs.declared.store_fault.StoreFault.{StoreFault}
+use Rattle.cut_journal.specs.declared.store_fault.StoreFault.TheVariants as store
 use Rattle.cut_migration.specs.Migration as moves
-use Rattle.cut_migration.specs.Migration.{AreTrueUpTo, first_moved, moved, moving_faults}
+use Rattle.cut_migration.specs.Migration.{AreTrueUpTo, first_moved, moved}
 use Rattle.cut_wires.specs.Log.{WireLog}
 use Rattle.cut_commands.specs.declared.fault.CliFault.{CliFault}
 use Rattle.cut_commands.specs.declared.fault.CliFault.TheVariants.{Memory, Plan, Read, Write, Journal, Migrate}
-use Rattle.cut_commands.specs.Faults.{fault_of_journal, fault_of_migration}
+use Rattle.cut_commands.specs.Faults.{fault_of_journal, fault_of_store}
 use Rattle.cut_commands.specs.Migrate.{AreStill, EndsMove, HasMovedAll, Holds, IsFree, LeavesSome, LeavesStill, MigrateDisks}
 use Rattle.cut_commands.specs.Migrate.{Migrates, MigratesFrom, WasRead, all_moved, migrate_task, moved_text}
-use Rattle.cut_commands.specs.NewStudy.{IsBegun, IsFilled}
+use Rattle.cut_commands.specs.NewStudy.{HasAll, HasPart, IsBegun, IsFilled, IsNewJournal}
 use Rattle.cut_commands.specs.Run.{GivesPlanFrom, IsReadAs, IsWritten, LeavesStudy}
-use Rattle.cut_commands.specs.inside.Migrate.{EndsFilling, Fills, HasAll, HasPart, IsNewJournal, IsOldRefused, WritesCount}
-use Rattle.cut_commands.proofs.NewStudies.{AreFirst, GoesOn, goes_begun, goes_filled, has_all, has_part, next_is}
+use Rattle.cut_commands.specs.inside.Migrate.{EndsFilling, Fills, IsOldRefused, WritesCount}
+use Rattle.cut_commands.proofs.NewStudies.{AreFirst, GoesOn, goes_all, goes_begun, goes_filled, goes_part, next_is}
 use Rattle.cut_commands.proofs.NewStudies.{none_next, taken_first}
 use Rattle.cut_commands.proofs.RunLemmas.{ends_unread, leaves_answer, leaves_nothing}
 use Rattle.cut_commands.proofs.Sources.{ends_read, ends_refused_text}
+
+-- a slip, where any serves
+abbrev no_slip : Slip
+no_slip = record { piece = record { first = 0; count = 0 }; totals = each_number (λ n. 0) }
 
 not_some : IsSome {T = Slip} None → ⊥
 not_some some = cc some
@@ -63,88 +69,88 @@ was_read d v slips goes = record {
 first_of_all : (v : Values) (ss : List Slip) (n : ℕ) → n ≤ length ss → take n (all_moved v ss) ≡ first_moved v ss n
 first_of_all v ss n few = grind (arith, take-map, take_all)
 
-module _ {D : Type 0} (v : Values) (ss : List Slip) (old new : JournalValue D) (one other : DiskLog)
-    (is : IsNewJournal (upgraded v) old) (known : is_known other ≡ is_known one)
-    (moments : IsKnown one → (n : ℕ) → new.count ≡ old.count + n
-    → AppendsEach old.plan (kept_slips old.plan old.count (on one)) new.doubtful (first_moved v ss n) (on one) (on other))
-    (kept : IsKnown one → (n : ℕ) → new.count ≡ old.count + n → kept_slips new.plan new.count (on other)
-    ≡ kept_slips old.plan old.count (on one) ++ first_moved v ss n)
-    (file : IsKnown other → IsFileOf new.plan new.count new.doubtful (on other)) where
-  -- all of the first n, and no append failed
-  all_of : (n : ℕ) → new.plan ≡ old.plan → new.count ≡ old.count + n → new.doubtful ≡ None → other.failed ≡ one.failed
-      → Goes (λ n. n) (HasAll (upgraded v) (first_moved v ss n)) one other
-  all_of n plan count whole faults = record {
-    known = known;
-    state = λ is_known. has_all (upgraded v) (first_moved v ss n) old new (on one) (on other) is plan whole
-        (moments is_known n count) (kept is_known n count) (file (known ∙ is_known));
-    faults = faults;
-  }
-
-  -- the first n of all
-  part_of : (counts : ℕ → ℕ) (n : ℕ) → n ≤ length ss → new.plan ≡ old.plan → new.count ≡ old.count + n
-      → GoesOn (all_moved v ss) (first_moved v ss n) new.doubtful → other.failed ≡ counts one.failed
-      → Goes counts (HasPart (upgraded v) (all_moved v ss)) one other
-  part_of counts n few plan count next faults = record {
-    known = known;
-    state = λ is_known. has_part (upgraded v) (all_moved v ss) (first_moved v ss n) old new (on one) (on other) is plan
-        (subst (λ (xs : List Slip). AreFirst (all_moved v ss) xs) (first_of_all v ss n few) (taken_first (all_moved v ss) n))
-        next (moments is_known n count) (kept is_known n count) (file (known ∙ is_known));
-    faults = faults;
-  }
+module _ {D : Type 0} (log : D → DiskLog) (v : Values) (ss : List Slip) (old new : JournalValue D)
+    (is : IsNewJournal (upgraded v) old) (file : Knows (log new.disk) (IsFileOf new.plan new.count new.doubtful)) where
+  -- all of the first n, and the disk did not fail
+  all_of : (n : ℕ) (added : List Slip) (failed : Option Slip) → Adds log added failed old new → failed ≡ None
+      → added ≡ first_moved v ss n → Goes (λ n. n) (HasAll (upgraded v) (first_moved v ss n)) (log old.disk) (log new.disk)
+  all_of n added failed adds unfailed are =
+      subst (λ (xs : List Slip). Goes (λ k. k) (HasAll (upgraded v) xs) (log old.disk) (log new.disk)) are
+      (goes_all log (upgraded v) old new is file added
+      (subst (λ (o : Option Slip). Adds log added o old new) unfailed adds))
 
   -- nothing was done
-  none_of : new ≡ old → other.failed ≡ one.failed
-      → Goes (λ n. n) (HasAll (upgraded v) []) one other
-  none_of same faults =
-      all_of 0 (ap (λ (j : JournalValue D). j.plan) same)
-      (let count = ap (λ (j : JournalValue D). j.count) same in omega (arith, count))
-      (ap (λ (j : JournalValue D). j.doubtful) same ∙ is.whole) faults
+  none_of : (added : List Slip) (failed : Option Slip) → Adds log added failed old new → AddsNothing added failed
+      → Goes (λ n. n) (HasAll (upgraded v) []) (log old.disk) (log new.disk)
+  none_of added failed adds none = all_of 0 added failed adds none.1 none.0
 
-  next_of : (n : ℕ) → n < length ss → ((d : Slip) → new.doubtful ≡ Some (moved v (slice_index_or ss n d)))
-      → GoesOn (all_moved v ss) (first_moved v ss n) new.doubtful
-  next_of n low doubtful = λ slip is.
+  -- the first n of all
+  part_of : (n : ℕ) (added : List Slip) (failed : Option Slip) → n ≤ length ss → Adds log added failed old new
+      → added ≡ first_moved v ss n → GoesOn (all_moved v ss) (first_moved v ss n) failed
+      → Goes (failures_after failed) (HasPart (upgraded v) (all_moved v ss)) (log old.disk) (log new.disk)
+  part_of n added failed few adds are next =
+      goes_part log (upgraded v) old new is file (all_moved v ss) (first_moved v ss n) failed
+      (subst (λ (xs : List Slip). AreFirst (all_moved v ss) xs) (first_of_all v ss n few) (taken_first (all_moved v ss) n))
+      next (subst (λ (xs : List Slip). Adds log xs failed old new) are adds)
+
+  -- and no append failed
+  some_of : (n : ℕ) (added : List Slip) (failed : Option Slip) → n ≤ length ss → Adds log added failed old new
+      → added ≡ first_moved v ss n → failed ≡ None
+      → Goes (λ n. n) (HasPart (upgraded v) (all_moved v ss)) (log old.disk) (log new.disk)
+  some_of n added failed few adds are unfailed =
+      subst (λ (o : Option Slip). Goes (failures_after o) (HasPart (upgraded v) (all_moved v ss)) (log old.disk)
+      (log new.disk)) unfailed
+      (part_of n added failed few adds are (none_next (all_moved v ss) (first_moved v ss n) failed unfailed))
+
+  next_of : (n : ℕ) (failed : Option Slip) → n < length ss
+      → ((d : Slip) → failed ≡ Some (moved v (slice_index_or ss n d)))
+      → GoesOn (all_moved v ss) (first_moved v ss n) failed
+  next_of n failed low at = λ slip is.
       let same : moved v (slice_index_or ss n slip) ≡ slip =
-      next_is (moved v (slice_index_or ss n slip)) slip (sym (doubtful slip) ∙ is) in
+      next_is (moved v (slice_index_or ss n slip)) slip (sym (at slip) ∙ is) in
       subst (λ (xs : List Slip). AreFirst (all_moved v ss) xs)
       (map_more (moved v) ss n slip low ∙ ap (λ (s : Slip). first_moved v ss n ++ s ∷ []) same)
       (subst (λ (xs : List Slip). AreFirst (all_moved v ss) xs) (first_of_all v ss (n + 1) (omega (arith, low)))
       (taken_first (all_moved v ss) (n + 1)))
 
-  pub fills_all : (n : ℕ) → moves.EndsMigration (Ok n) v ss old new → other.failed ≡ one.failed
-      → Fills (Ok n) v ss one other
-  fills_all n ends faults = (
-    ends.0,
-    ends.1.version,
-    ends.1.good,
-    subst (λ (m : ℕ). AreTrueUpTo v ss m) ends.0 ends.2.true,
-    subst (λ (m : ℕ). Goes (λ k. k) (HasAll (upgraded v) (first_moved v ss m)) one other) ends.0
-        (all_of n ends.2.plan ends.2.count (ends.3 ∙ is.whole) faults),
-  )
-
-  pub fills_some : (fault : MigrateFault) → moves.EndsMigration (Err fault) v ss old new
-      → other.failed ≡ moving_faults {T = ℕ} (Err fault) one.failed → Fills (Err (fault_of_migration fault)) v ss one other
-  fills_some migration.Memory ends faults = elim ends.1 [
-    | inl same ↦ part_of (λ n. n) 0 (omega arith) (ap (λ (j : JournalValue D). j.plan) same)
-        (let count = ap (λ (j : JournalValue D). j.count) same in omega (arith, count))
-        (none_next (all_moved v ss) (first_moved v ss 0) new.doubtful
-        (ap (λ (j : JournalValue D). j.doubtful) same ∙ is.whole)) faults
-    | inr some ↦ part_of (λ n. n) some.1.0 some.1.1.0.within some.1.1.0.plan some.1.1.0.count
-        (none_next (all_moved v ss) (first_moved v ss some.1.0) new.doubtful (some.1.1.1 ∙ is.whole)) faults
-  ]
-  fills_some migration.NotVersion1 ends faults = (ends.0, none_of ends.1 faults)
-  fills_some (migration.BadSlip n) ends faults = (ends.0, ends.1, none_of ends.2 faults)
-  fills_some migration.OtherPlan ends faults = absurd (ends.2 is.plan)
-  fills_some (migration.Disagrees n) ends faults =
-      (ends.0.version, ends.0.good, ends.1, all_of (n - 1) ends.2.plan ends.2.count (ends.3 ∙ is.whole) faults)
-  fills_some migration.Broken ends faults =
-      absurd (not_some (subst (λ (o : Option Slip). IsSome o) is.whole ends.3))
-  fills_some migration.Disk ends faults =
-      let fails = ends.1.1 in (
-        ends.0.version,
-        ends.0.good,
-        part_of one_more ends.1.0 (omega (arith, fails.within)) fails.plan fails.count
-            (next_of ends.1.0 fails.within fails.doubtful) faults,
+  pub fills_all : (n : ℕ) → moves.EndsMigration log (Ok n) v ss old new → Fills (Ok n) v ss (log old.disk) (log new.disk)
+  fills_all n (added, failed, ends) =
+      let moved_so = ends.1.2 in (
+        ends.1.0,
+        ends.1.1.version,
+        ends.1.1.good,
+        subst (λ (m : ℕ). AreTrueUpTo v ss m) ends.1.0 moved_so.true,
+        subst (λ (m : ℕ). Goes (λ k. k) (HasAll (upgraded v) (first_moved v ss m)) (log old.disk) (log new.disk)) ends.1.0
+            (all_of n added failed ends.0 ends.1.3 moved_so.added_are),
       )
+
+  pub fills_some : (fault : StoreFault) → moves.EndsMigration log (Err fault) v ss old new
+      → Fills (Err (fault_of_store fault)) v ss (log old.disk) (log new.disk)
+  fills_some store.Memory (added, failed, ends) = elim ends.1.1 [
+    | inl none ↦ some_of 0 added failed (omega arith) ends.0 none.0 none.1
+    | inr some ↦ some_of some.1.0 added failed some.1.1.0.within ends.0 some.1.1.0.added_are some.1.1.1
+  ]
+  fills_some store.NotVersion1 (added, failed, ends) = (ends.1.0, none_of added failed ends.0 ends.1.1)
+  fills_some (store.BadSlip n) (added, failed, ends) = (ends.1.0, ends.1.1, none_of added failed ends.0 ends.1.2)
+  fills_some store.OtherPlan (added, failed, ends) = absurd (ends.1.2 is.plan)
+  fills_some (store.Disagrees n) (added, failed, ends) = (
+    ends.1.0.version,
+    ends.1.0.good,
+    ends.1.1,
+    all_of (n - 1) added failed ends.0 ends.1.3 ends.1.2.added_are,
+  )
+  fills_some store.Broken (added, failed, ends) =
+      absurd (not_some (subst (λ (o : Option Slip). IsSome o) is.whole ends.1.3))
+  fills_some store.Disk (added, failed, ends) =
+      let n : ℕ = ends.1.1.0 in let fails = ends.1.1.1 in (
+        ends.1.0.version,
+        ends.1.0.good,
+        subst (λ (o : Option Slip). Goes (failures_after o) (HasPart (upgraded v) (all_moved v ss)) (log old.disk)
+            (log new.disk)) (fails.failed_at no_slip)
+            (part_of n added failed (let low = fails.within in omega (arith, low)) ends.0 fails.added_are
+            (next_of n failed fails.within fails.failed_at)),
+      )
+  fills_some store.WorkMemory (added, failed, ends) = absurd ends.1
 
 -- ---- and to a disk on which that journal is made
 
@@ -157,18 +163,18 @@ module _ (v : Values) (ss : List Slip) (old mid new : DiskLog) (claimed : Goes (
       (fills.0, fills.1, fills.2, fills.3, free, goes_filled (upgraded v) (all_moved v ss) old mid new claimed fills.4)
   since_claimed (Err Memory) fills =
       inr (goes_begun (λ n. n) (upgraded v) (all_moved v ss) old mid new claimed fills)
-  since_claimed (Err (Migrate migration.NotVersion1)) fills =
+  since_claimed (Err (Migrate store.NotVersion1)) fills =
       (fills.0, free, goes_filled (upgraded v) [] old mid new claimed fills.1)
-  since_claimed (Err (Migrate (migration.BadSlip n))) fills =
+  since_claimed (Err (Migrate (store.BadSlip n))) fills =
       (fills.0, fills.1, free, goes_filled (upgraded v) [] old mid new claimed fills.2)
-  since_claimed (Err (Migrate (migration.Disagrees n))) fills = (
+  since_claimed (Err (Migrate (store.Disagrees n))) fills = (
     fills.0,
     fills.1,
     fills.2,
     free,
     goes_filled (upgraded v) (first_moved v ss (n - 1)) old mid new claimed fills.3,
   )
-  since_claimed (Err (Migrate migration.Disk)) fills =
+  since_claimed (Err (Migrate store.Disk)) fills =
       (fills.0, fills.1, free, goes_begun one_more (upgraded v) (all_moved v ss) old mid new claimed fills.2)
   since_claimed (Err fault) fills = absurd fills
 
@@ -218,12 +224,12 @@ moved_ends d v slips (Err Memory) read (inl same) = record { old = looked_at d v
 moved_ends d v slips (Err Memory) read (inr begun) =
     record { old = looked_at d v slips read; new = inr (slips, read, begun) }
 moved_ends d v slips (Err (Journal fault)) read ends = inr (ends.0, ends.1, (slips, read))
-moved_ends d v slips (Err (Migrate migration.NotVersion1)) read ends = (ends.0, (slips, read, ends.1), ends.2)
-moved_ends d v slips (Err (Migrate (migration.BadSlip n))) read ends =
+moved_ends d v slips (Err (Migrate store.NotVersion1)) read ends = (ends.0, (slips, read, ends.1), ends.2)
+moved_ends d v slips (Err (Migrate (store.BadSlip n))) read ends =
     (slips, record { version = ends.0; read = read; free = ends.2 }, ends.1, ends.3)
-moved_ends d v slips (Err (Migrate (migration.Disagrees n))) read ends =
+moved_ends d v slips (Err (Migrate (store.Disagrees n))) read ends =
     (slips, record { version = ends.0; read = read; free = ends.3 }, ends.1, ends.2, ends.4)
-moved_ends d v slips (Err (Migrate migration.Disk)) read ends =
+moved_ends d v slips (Err (Migrate store.Disk)) read ends =
     (slips, record { version = ends.0; read = read; free = ends.2 }, ends.1, ends.3)
 moved_ends d v slips (Err fault) read ends = absurd ends
 

@@ -1,18 +1,21 @@
 -- What is left of a disk on which a study is made, and slips are written one after another.
 use Rattle.std.proofs.Common.{◌≡◌, ◌∙◌, ◌++◌, ◌+◌, ◌<◌, inl, inr, ℕ, true, List, [], ◌∷◌, Option, Some, None, Ok, Err}
+use Rattle.std.proofs.Common.{Result}
 use Rattle.std.proofs.Common.{length, take, drop, get_or, refl, sym, ap, subst, arith, append-nil, append_assoc}
 use Rattle.std.proofs.lemmas.List.{take-append-drop, take_all, take_more}
 use Rattle.cut_plan.specs.Values.{Values}
 use Rattle.cut_disks.specs.State.{DiskState, Throughout, synced}
-use Rattle.cut_disks.specs.Log.{DiskLog, Goes, IsKnown, on}
+use Rattle.cut_disks.specs.Log.{DiskLog, Goes, Knows, on}
 use Rattle.cut_ledger.specs.declared.slip.Slip.{Slip}
 use Rattle.cut_journal.specs.declared.fault.JournalFault.TheVariants as journal
+use Rattle.cut_journal.specs.declared.store_fault.StoreFault.{StoreFault}
+use Rattle.cut_journal.specs.declared.store_fault.StoreFault.TheVariants as store
+use Rattle.cut_journal.specs.Adding.{Adds, StopsAt, doubtful_after, failures_after}
 use Rattle.cut_journal.specs.Journal.{AppendsEach, IsFileOf, JournalValue, ReadsAs, kept_slips}
 use Rattle.cut_journal.specs.Opening.{IsBegunFile, IsClaimed, IsNewStudy, is_unclaimed}
 use Rattle.cut_journal.specs.Reading.{reading}
 use Rattle.cut_journal.proofs.Moments.{and_then, weaker}
-use Rattle.cut_commands.specs.NewStudy.{IsBegun, IsFilled, SaysAllOf, SaysFirstOf}
-use Rattle.cut_commands.specs.inside.Migrate.{HasAll, HasPart, IsNewJournal}
+use Rattle.cut_commands.specs.NewStudy.{HasAll, HasPart, IsBegun, IsFilled, IsNewJournal, SaysAllOf, SaysFirstOf}
 
 -- ---- first slips
 
@@ -34,11 +37,6 @@ none_next all some doubtful none slip is = absurd (let both : None ≡ Some slip
 
 pub next_is : (x slip : Slip) → Some x ≡ Some slip → x ≡ slip
 next_is x slip is = cc
-
-pub one_next : (all : List Slip) (n : ℕ) (doubtful : Option Slip) → n < length all
-    → ((d : Slip) → doubtful ≡ Some (get_or all n d)) → GoesOn all (take n all) doubtful
-one_next all n doubtful within is slip same =
-    grind (arith, take_more all n slip within, taken_first all (n + 1))
 
 pub reads_first : (v : Values) (all kept : List Slip) (doubtful : Option Slip) → AreFirst all kept
     → GoesOn all kept doubtful → (bytes : List ℕ) → ReadsAs v kept doubtful bytes → SaysFirstOf v all bytes
@@ -87,6 +85,52 @@ has_all v xs old new before after is plan whole moments kept file = record {
       moments kept file;
   all = grind (arith, take_all);
 }
+
+-- slips that are added to such a journal go on, where the disk failed at one
+next_after : (all some : List Slip) (failed before : Option Slip) → before ≡ None → GoesOn all some failed
+    → GoesOn all some (doubtful_after failed before)
+next_after all some None before none next = none_next all some before none
+next_after all some (Some slip) before none next = next
+
+module _ {D : Type 0} (log : D → DiskLog) (v : Values) (old new : JournalValue D) (is : IsNewJournal v old)
+    (file : Knows (log new.disk) (IsFileOf new.plan new.count new.doubtful)) where
+  pub goes_all : (xs : List Slip) → Adds log xs None old new → Goes (λ n. n) (HasAll v xs) (log old.disk) (log new.disk)
+  goes_all xs adds = record {
+    known = adds.disk.known;
+    state = λ known. (let one = adds.disk.state known in
+        has_all v xs old new (on (log old.disk)) (on (log new.disk)) is adds.plan (adds.doubtful ∙ is.whole) one.moments
+        one.kept (file (adds.disk.known ∙ known)));
+    faults = adds.disk.faults;
+  }
+
+  pub goes_part : (all xs : List Slip) (failed : Option Slip) → AreFirst all xs → GoesOn all xs failed
+      → Adds log xs failed old new → Goes (failures_after failed) (HasPart v all) (log old.disk) (log new.disk)
+  goes_part all xs failed first next adds = record {
+    known = adds.disk.known;
+    state = λ known. (let one = adds.disk.state known in
+        has_part v all xs old new (on (log old.disk)) (on (log new.disk)) is adds.plan first
+        (subst (λ (o : Option Slip). GoesOn all xs o) (sym adds.doubtful)
+        (next_after all xs failed old.doubtful is.whole next)) one.moments one.kept (file (adds.disk.known ∙ known)));
+    faults = adds.disk.faults;
+  }
+
+-- how the adding of some slips ends says which were added first, and which one comes next
+pub first_added : {T : Type 0} (result : Result T StoreFault) (all : List Slip) (doubtful : Option Slip)
+    (added : List Slip) (failed : Option Slip) → StopsAt result all doubtful added failed
+    → AreFirst all added × GoesOn all added failed
+first_added (Ok done) all doubtful added failed is =
+    (([], sym is.0 ∙ sym (append-nil added)), none_next all added failed is.1)
+first_added (Err store.Broken) all doubtful added failed is =
+    ((all, ap (λ (xs : List Slip). xs ++ all) (sym is.2.0)), none_next all added failed is.2.1)
+first_added (Err store.Disk) all doubtful added failed is = (
+  (is.0 ∷ is.1, is.2.0),
+  λ slip same. (
+    is.1,
+    is.2.0 ∙ ap (λ (x : Slip). added ++ x ∷ is.1) (next_is is.0 slip (sym is.2.1 ∙ same))
+        ∙ sym (append_assoc added (slip ∷ []) is.1),
+  ),
+)
+first_added (Err fault) all doubtful added failed is = absurd is
 
 -- ---- a journal that was made on an unclaimed disk
 

@@ -12,9 +12,8 @@ use Rattle.cut_plan.specs.Refusals.{code_of_refusal, field_of_refusal}
 use Rattle.cut_journal.specs.declared.fault.JournalFault.{JournalFault}
 use Rattle.cut_journal.specs.declared.fault.JournalFault.TheVariants as journal
 use Rattle.cut_journal.specs.FaultCode as journal_codes
-use Rattle.cut_migration.specs.declared.fault.MigrateFault.{MigrateFault}
-use Rattle.cut_migration.specs.declared.fault.MigrateFault.TheVariants as migration
-use Rattle.cut_migration.specs.FaultCode as migrate_codes
+use Rattle.cut_journal.specs.declared.store_fault.StoreFault.{StoreFault}
+use Rattle.cut_journal.specs.declared.store_fault.StoreFault.TheVariants as store
 use Rattle.cut_commands.specs.declared.fault.CliFault.{CliFault}
 use Rattle.cut_pool.specs.declared.run_fault.RunFault.{RunFault}
 use Rattle.cut_pool.specs.declared.run_fault.RunFault.TheVariants as study
@@ -38,7 +37,7 @@ number_of (Write fault) = codes_of.number_of code.Write
 number_of (Journal fault) = codes_of.number_of (journal_codes.code_of fault)
 number_of Folder = codes_of.number_of code.Disk
 number_of (BadSlip number) = codes_of.number_of code.BadSlip
-number_of (Migrate fault) = codes_of.number_of (migrate_codes.code_of fault)
+number_of (Migrate fault) = codes_of.number_of (journal_codes.code_of_store fault)
 number_of Checkpoint = codes_of.number_of code.Checkpoint
 number_of WorkMemory = codes_of.number_of code.WorkMemory
 number_of AuditMismatch = codes_of.number_of code.AuditMismatch
@@ -66,8 +65,8 @@ carried_by (Plan refusal) = field_words (field_of_refusal refusal)
 carried_by (Write fault) = 32 ∷ decimal fault.sent
 carried_by (Journal (journal.Damaged number)) = 32 ∷ decimal number
 carried_by (BadSlip number) = 32 ∷ decimal number
-carried_by (Migrate (migration.BadSlip number)) = 32 ∷ decimal number
-carried_by (Migrate (migration.Disagrees number)) = 32 ∷ decimal number
+carried_by (Migrate (store.BadSlip number)) = 32 ∷ decimal number
+carried_by (Migrate (store.Disagrees number)) = 32 ∷ decimal number
 carried_by fault = []
 
 -- the fault as it is printed
@@ -103,10 +102,10 @@ IsRefusalOfNew journal.Held = ⊤
 IsRefusalOfNew journal.NoStudy = ⊤
 IsRefusalOfNew fault = ⊥
 
--- the fault of the program where slips were not moved
-abbrev pub fault_of_migration : MigrateFault → CliFault
-fault_of_migration migration.Memory = Memory
-fault_of_migration fault = Migrate fault
+-- the fault of the program if slips were not all stored
+abbrev pub fault_of_store : StoreFault → CliFault
+fault_of_store store.Memory = Memory
+fault_of_store fault = Migrate fault
 
 -- the fault of the program if a study was not run to its end
 abbrev pub fault_of_study : RunFault → CliFault

@@ -16,8 +16,8 @@ use Rattle.cut_ledger.specs.Slips.{AreGood, IsFirstBad}
 use Rattle.cut_journal.specs.declared.fault.JournalFault.{JournalFault}
 use Rattle.cut_journal.specs.declared.fault.JournalFault.TheVariants as journal
 use Rattle.cut_journal.specs.Journal.{fault_counts}
-use Rattle.cut_migration.specs.declared.fault.MigrateFault.{MigrateFault}
-use Rattle.cut_migration.specs.declared.fault.MigrateFault.TheVariants as migration
+use Rattle.cut_journal.specs.declared.store_fault.StoreFault.{StoreFault}
+use Rattle.cut_journal.specs.declared.store_fault.StoreFault.TheVariants as store
 use Rattle.cut_migration.specs.Migration.{AreTrueUpTo, IsFirstUntrue, first_moved}
 use Rattle.cut_journal.specs.Opening.{IsNotClaimed, IsRead, IsRefused, is_unclaimed}
 use Rattle.cut_journal.specs.Reading.{reading}
@@ -87,15 +87,15 @@ MigrateWrites d v whole = (n : ℕ) × HasMovedAll d v n × (whole ≡ moved_tex
 -- no study; or, if they could be, the first bad slip, the first that is not true, or the disk of the new checkpoint,
 -- which failed. The new disk has a study with the slips before the one that stopped it; where its disk failed, with some
 -- first ones
-abbrev pub StopsBy : MigrateDisks → Values → MigrateFault → Type 0
-StopsBy d v migration.NotVersion1 =
+abbrev pub StopsBy : MigrateDisks → Values → StoreFault → Type 0
+StopsBy d v store.NotVersion1 =
     (version_of v.failing ≡ Two) × ((slips : List Slip) × WasRead d v slips × IsFree d.new) × HasNew d v []
-StopsBy d v (migration.BadSlip n) =
+StopsBy d v (store.BadSlip n) =
     (slips : List Slip) × IsReady d v slips × IsFirstBad v slips n × HasNew d v []
-StopsBy d v (migration.Disagrees n) =
+StopsBy d v (store.Disagrees n) =
     (slips : List Slip) × IsReady d v slips × AreGood v slips × IsFirstUntrue v slips n
     × HasNew d v (first_moved v slips (n - 1))
-StopsBy d v migration.Disk =
+StopsBy d v store.Disk =
     (slips : List Slip) × IsReady d v slips × AreGood v slips
     × Goes one_more (IsBegun (upgraded v) (all_moved v slips)) d.new d.new_back
 StopsBy d v fault = ⊥

@@ -5,9 +5,8 @@ ghost use Rattle.cut_commands.specs.Faults.{code_of, name_of, number_of, status_
 use arrayvec::ArrayString;
 use cut_faults::{FaultCode, status_of_number};
 use cut_files::OpenFault;
-use cut_journal::JournalFault;
+use cut_journal::{JournalFault, StoreFault};
 use cut_messages::AskFault;
-use cut_migration::MigrateFault;
 use cut_plan::{Field, PlanFault, Refusal};
 use cut_pool::RunFault;
 use cut_status::StatusFault;
@@ -42,8 +41,8 @@ pub enum CliFault {
     Folder,
     /// The slip of this number in the checkpoint, from 1, is not a slip of the plan.
     BadSlip(u64),
-    /// The slips of a checkpoint were not all moved to another one.
-    Migrate(MigrateFault),
+    /// The slips of checkpoints were not all stored in another one.
+    Migrate(StoreFault),
     /// The checkpoint took no more.
     Checkpoint,
     /// A running study got no more memory.
@@ -114,7 +113,7 @@ impl CliFault {
             CliFault::Plan(refusal) => push_field(&mut text, refusal.field()),
             CliFault::Write(Sent { sent: number })
             | CliFault::BadSlip(number)
-            | CliFault::Migrate(MigrateFault::BadSlip(number) | MigrateFault::Disagrees(number))
+            | CliFault::Migrate(StoreFault::BadSlip(number) | StoreFault::Disagrees(number))
             | CliFault::Journal(JournalFault::Damaged(number)) => push_number(&mut text, *number),
             CliFault::Memory
             | CliFault::Read
@@ -204,15 +203,15 @@ impl From<JournalFault> for CliFault {
     }
 }
 
-impl From<MigrateFault> for CliFault {
+impl From<StoreFault> for CliFault {
     ghost use Rattle.std.specs.Prelude.{◌≡◌};
-    ghost use Rattle.cut_commands.specs.Faults.{fault_of_migration};
+    ghost use Rattle.cut_commands.specs.Faults.{fault_of_store};
 
-    ghost from_gives = { λ fault e. e ≡ fault_of_migration fault };
+    ghost from_gives = { λ fault e. e ≡ fault_of_store fault };
 
-    fn from(fault: MigrateFault) -> CliFault {
+    fn from(fault: StoreFault) -> CliFault {
         match fault {
-            MigrateFault::Memory => CliFault::Memory,
+            StoreFault::Memory => CliFault::Memory,
             fault => CliFault::Migrate(fault),
         }
     }

@@ -3,8 +3,9 @@ ghost use Rattle.cut_disks.specs.Log.{Goes};
 ghost use Rattle.cut_journal.specs.Opening.{IsReopened};
 ghost use Rattle.cut_plan.specs.Targets.{upgraded};
 ghost use Rattle.cut_commands.specs.Migrate.{EndsMigrate, EndsMove, MigrateDisks, MigratesFrom, StaysBeside, moved_text};
+ghost use Rattle.cut_commands.specs.NewStudy.{IsNewJournal};
 ghost use Rattle.cut_commands.specs.Run.{source_place};
-ghost use Rattle.cut_commands.specs.inside.Migrate.{EndsFilling, Fills, IsNewJournal, IsOldRefused, WritesCount};
+ghost use Rattle.cut_commands.specs.inside.Migrate.{EndsFilling, Fills, IsOldRefused, WritesCount};
 
 use crate::CliFault;
 use crate::input::PlanSource;

@@ -1,9 +1,10 @@
 -- Slips that are added to a journal, one after another.
 use Rattle.std.proofs.Common.{◌≡◌, ◌∙◌, ◌≤◌, ◌+◌, ◌++◌, inl, inr, ℕ, List, [], ◌∷◌, Ok, Err, Option, Some, None, refl}
-use Rattle.std.proofs.Common.{sym, ap, subst, arith, append-nil, append_assoc, length, length-append}
+use Rattle.std.proofs.Common.{sym, ap, subst, arith, append-nil, append_assoc, length, length-append, unwrap_or}
 use Rattle.std.specs.Bool.{⊤}
 use Rattle.std.specs.Prelude.{IsSome, IsErrOf, Result, ◌↔◌}
 use Rattle.cut_disks.specs.Log.{DiskLog, Knows, on}
+use Rattle.cut_disks.specs.State.{Throughout}
 use Rattle.cut_ledger.specs.declared.slip.Slip.{Slip}
 use Rattle.cut_journal.specs.declared.fault.JournalFault.{JournalFault}
 use Rattle.cut_journal.specs.declared.fault.JournalFault.TheVariants as journal
@@ -11,8 +12,9 @@ use Rattle.cut_journal.specs.declared.store_fault.StoreFault.{StoreFault}
 use Rattle.cut_journal.specs.declared.store_fault.StoreFault.TheVariants as store
 use Rattle.cut_journal.specs.Adding.{Adds, EndsAdding, doubtful_after, failures_after}
 use Rattle.cut_journal.specs.inside.Adding.{store_fault_of}
-use Rattle.cut_journal.specs.Journal.{Appends, IsFileOf, IsSlipAppendFault, JournalValue, LeavesAppend, kept_slips}
-use Rattle.cut_journal.proofs.Series.{LeavesDoubt, append_moments, each_then, none_of, nothing_appended}
+use Rattle.cut_journal.specs.Journal.{Appends, IsFileOf, IsSlipAppendFault, JournalValue, LeavesAppend, ReadsAs, kept_slips}
+use Rattle.cut_journal.proofs.Moments.{stays}
+use Rattle.cut_journal.proofs.Series.{LeavesDoubt, each_then, none_of, nothing_appended}
 
 -- ---- none, and some after others
 
@@ -81,6 +83,14 @@ added_then log xs ys failed old mid new before after = record {
 
 module _ {D : Type 0} (log : D → DiskLog) (slip : Slip) (old new : JournalValue D)
     (sound : Knows (log old.disk) (IsFileOf old.plan old.count old.doubtful)) where
+  step : old.doubtful ≡ None
+      → Throughout (on (log old.disk)) (on (log new.disk))
+      (ReadsAs old.plan (kept_slips old.plan old.count (on (log old.disk))) (Some (unwrap_or old.doubtful slip)))
+      → Throughout (on (log old.disk)) (on (log new.disk))
+      (ReadsAs old.plan (kept_slips old.plan old.count (on (log old.disk))) (Some slip))
+  step none moments = subst (λ (o : Option Slip). Throughout (on (log old.disk)) (on (log new.disk))
+      (ReadsAs old.plan (kept_slips old.plan old.count (on (log old.disk))) (Some (unwrap_or o slip)))) none moments
+
   pub slip_added : (n : ℕ) → (IsErrOf {T = ℕ} (Ok n) journal.Broken ↔ IsSome old.doubtful)
       → LeavesAppend (Ok n) slip old new → Appends log (Ok n) slip old new
       → EndsAdding {T = ⊤} log (Ok tt) (slip ∷ []) old new
@@ -99,8 +109,15 @@ module _ {D : Type 0} (log : D → DiskLog) (slip : Slip) (old new : JournalValu
             disk = record {
               known = appends.known;
               state = λ known. (let one = appends.state known in record {
-                moments = append_moments (Ok n) slip (λ d. on (log d)) old new left broken (sound known) one.moments
-                    one.acknowledged one.kept;
+                moments = (
+                  on (log new.disk),
+                  (
+                    step none one.moments,
+                    stays (ReadsAs old.plan (kept_slips old.plan old.count (on (log old.disk)) ++ slip ∷ []) new.doubtful)
+                        (on (log new.disk)) (on (log new.disk)) refl
+                        (λ image of. inl (one.acknowledged image of ∙ ap (λ (l : List Slip). Ok l) one.kept)),
+                  ),
+                );
                 kept = one.kept;
               });
               faults = appends.faults;
@@ -128,8 +145,9 @@ module _ {D : Type 0} (log : D → DiskLog) (slip : Slip) (old new : JournalValu
             disk = record {
               known = appends.known;
               state = λ known. (let one = appends.state known in record {
-                moments = append_moments (Err journal.Disk) slip (λ d. on (log d)) old new left broken (sound known)
-                    one.moments one.acknowledged one.kept;
+                moments = subst (λ (o : Option Slip). Throughout (on (log old.disk)) (on (log new.disk))
+                    (ReadsAs old.plan (kept_slips old.plan old.count (on (log old.disk))) o)) (sym left.2)
+                    (step none one.moments);
                 kept = one.kept ∙ sym (append-nil (kept_slips old.plan old.count (on (log old.disk))));
               });
               faults = appends.faults;

@@ -1,15 +1,11 @@
 -- Slips that are appended one after another, and what each crash of it leaves.
-use Rattle.std.proofs.Common.{◌≡◌, ◌∙◌, ◌++◌, inl, inr, ℕ, List, [], ◌∷◌, Ok, Err, Option, Some, None, unwrap_or, refl}
-use Rattle.std.proofs.Common.{sym, ap, subst, append-nil, append_assoc}
-use Rattle.std.specs.Prelude.{IsSome, IsErrOf, OnOk, Result, ◌↔◌, ◌⊎◌}
+use Rattle.std.proofs.Common.{◌≡◌, ◌∙◌, ◌++◌, inl, inr, ℕ, List, [], ◌∷◌, Option, Some, None, refl}
+use Rattle.std.proofs.Common.{sym, subst, append-nil, append_assoc}
+use Rattle.std.specs.Prelude.{IsSome, ◌⊎◌}
 use Rattle.cut_plan.specs.Values.{Values}
-use Rattle.cut_disks.specs.State.{DiskState, IsImage, Throughout}
+use Rattle.cut_disks.specs.State.{DiskState, Throughout}
 use Rattle.cut_ledger.specs.declared.slip.Slip.{Slip}
-use Rattle.cut_journal.specs.declared.fault.JournalFault.{JournalFault}
-use Rattle.cut_journal.specs.declared.fault.JournalFault.TheVariants as journal
-use Rattle.cut_journal.specs.Journal.{JournalValue, AppendsEach, IsFileOf, LeavesAppend, ReadsAs, kept_slips}
-use Rattle.cut_journal.specs.Journal.{slips_after, taken}
-use Rattle.cut_journal.specs.Reading.{reading}
+use Rattle.cut_journal.specs.Journal.{AppendsEach, IsFileOf, ReadsAs, kept_slips}
 use Rattle.cut_journal.proofs.Moments.{stays, weaker, and_then}
 
 pub none_of : (o : Option Slip) → (IsSome o → ⊥) → o ≡ None
@@ -68,59 +64,3 @@ pub nothing_appended : (v : Values) (count : ℕ) (doubtful : Option Slip) (d : 
     → AppendsEach v (kept_slips v count d) doubtful [] d d
 nothing_appended v count doubtful d sound =
     stays (ReadsAs v (kept_slips v count d) doubtful) d d refl (λ image of. sound.images image of)
-
-same_moments : {D : Type 0} (state : D → DiskState) (old new : JournalValue D) → new ≡ old
-    → IsFileOf old.plan old.count old.doubtful (state old.disk)
-    → AppendsEach old.plan (kept_slips old.plan old.count (state old.disk)) new.doubtful [] (state old.disk)
-    (state new.disk)
-same_moments state old new same sound =
-    subst (λ (l : JournalValue _). AppendsEach old.plan (kept_slips old.plan old.count (state old.disk)) l.doubtful []
-    (state old.disk) (state l.disk)) (sym same)
-    (nothing_appended old.plan old.count old.doubtful (state old.disk) sound)
-
--- one append
-pub append_moments : {D : Type 0} (result : Result ℕ JournalFault) (slip : Slip) (state : D → DiskState)
-    (old new : JournalValue D)
-    → LeavesAppend result slip old new → (IsErrOf result journal.Broken ↔ IsSome old.doubtful)
-    → IsFileOf old.plan old.count old.doubtful (state old.disk)
-    → Throughout (state old.disk) (state new.disk)
-    (ReadsAs old.plan (kept_slips old.plan old.count (state old.disk)) (Some (unwrap_or old.doubtful slip)))
-    → OnOk result ((image : List ℕ) → IsImage (state new.disk).stable image → reading old.plan image
-    ≡ Ok (kept_slips new.plan new.count (state new.disk)))
-    → kept_slips new.plan new.count (state new.disk)
-    ≡ slips_after result slip (kept_slips old.plan old.count (state old.disk))
-    → AppendsEach old.plan (kept_slips old.plan old.count (state old.disk)) new.doubtful (taken result slip)
-    (state old.disk) (state new.disk)
-append_moments (Ok n) slip state old new left broken sound moments known kept =
-    let none : old.doubtful ≡ None = none_of old.doubtful (λ some. cc (broken.1 some)) in
-    let before : List Slip = kept_slips old.plan old.count (state old.disk) in
-    let step : Throughout (state old.disk) (state new.disk) (ReadsAs old.plan before (Some slip)) =
-    subst (λ (o : Option Slip). Throughout (state old.disk) (state new.disk)
-    (ReadsAs old.plan before (Some (unwrap_or o slip)))) none moments in (
-      state new.disk,
-      (
-        step,
-        stays (ReadsAs old.plan (before ++ slip ∷ []) new.doubtful) (state new.disk) (state new.disk) refl
-            (λ image of. inl (known image of ∙ ap (λ (l : List Slip). Ok l) kept)),
-      ),
-    )
-append_moments (Err journal.Disk) slip state old new left broken sound moments known kept =
-    let none : old.doubtful ≡ None = none_of old.doubtful (λ some. cc (broken.1 some)) in
-    let before : List Slip = kept_slips old.plan old.count (state old.disk) in
-    let step : Throughout (state old.disk) (state new.disk) (ReadsAs old.plan before (Some slip)) =
-    subst (λ (o : Option Slip). Throughout (state old.disk) (state new.disk)
-    (ReadsAs old.plan before (Some (unwrap_or o slip)))) none moments in
-    subst (λ (o : Option Slip). Throughout (state old.disk) (state new.disk) (ReadsAs old.plan before o)) (sym left.2)
-    step
-append_moments (Err journal.Memory) slip state old new left broken sound moments known kept = same_moments state old new
-    left sound
-append_moments (Err journal.Broken) slip state old new left broken sound moments known kept = same_moments state old new
-    left sound
-append_moments (Err journal.NoStudy) slip state old new left broken sound moments known kept = same_moments state old
-    new left sound
-append_moments (Err journal.OtherPlan) slip state old new left broken sound moments known kept = same_moments state old
-    new left sound
-append_moments (Err (journal.Damaged k)) slip state old new left broken sound moments known kept = same_moments state
-    old new left sound
-append_moments (Err journal.Held) slip state old new left broken sound moments known kept = same_moments state old new
-    left sound

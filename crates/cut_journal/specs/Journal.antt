@@ -100,11 +100,6 @@ AppendsEach v kept doubtful (slip ∷ slips) old new =
     (mid : DiskState) × (Throughout old mid (ReadsAs v kept (Some slip))
     × AppendsEach v (kept ++ slip ∷ []) doubtful slips mid new)
 
--- the slip that an append took, if it did
-abbrev pub taken : {T E : Type 0} → Result T E → Slip → List Slip
-taken (Ok done) slip = slip ∷ []
-taken (Err fault) slip = []
-
 -- ---- faults of the disk
 
 -- how many calls of the disk failed, after a fault of a journal: one more exactly if it is that fault

@@ -4,16 +4,17 @@ use Rattle.std.proofs.Common.{take, refl, sym, ap, subst, arith, inl, inr}
 use Rattle.std.specs.Bool.{⊤}
 use Rattle.std.specs.Prelude.{IfErr, IsSome}
 use Rattle.std.proofs.lemmas.List.{take_all}
+use Rattle.cut_faults.specs.Failures.{one_more}
 use Rattle.cut_plan.specs.Values.{Values}
 use Rattle.cut_disks.specs.Log.{DiskLog, Goes, IsKnown, is_known, on}
 use Rattle.cut_ledger.specs.declared.slip.Slip.{Slip}
 use Rattle.cut_journal.specs.declared.fault.JournalFault.{JournalFault}
 use Rattle.cut_journal.specs.Journal.{AppendsEach, JournalValue, IsFileOf, ReadsAs, kept_slips, slips_of}
 use Rattle.cut_journal.specs.Opening.{IsOpened}
-use Rattle.cut_shares.specs.declared.share.fault.ShareFault.{ShareFault}
-use Rattle.cut_shares.specs.declared.share.fault.ShareFault.TheVariants as share
+use Rattle.cut_journal.specs.declared.store_fault.StoreFault.{StoreFault}
+use Rattle.cut_journal.specs.declared.store_fault.StoreFault.TheVariants as store
+use Rattle.cut_journal.specs.Adding.{Adds, doubtful_after, failures_after}
 use Rattle.cut_shares.specs.declared.share.share.Share.{Share}
-use Rattle.cut_shares.specs.share.Appending.{Adds}
 use Rattle.cut_shares.specs.share.Running.{AreOfShare, EndsShare}
 use Rattle.cut_wires.specs.Log.{WireLog}
 use Rattle.cut_files.specs.Place.{Place}
@@ -41,6 +42,11 @@ say_up_to v slips (Some slip) bytes is = grind arith
 none_of_share : (s : Share) (v : Values) (slips added : List Slip) → added ≡ [] → AreOfShare s v slips added
 none_of_share s v slips added none = grind arith
 
+-- the doubtful slip after appends to a journal that had none
+doubtful_of : (failed before : Option Slip) → before ≡ None → doubtful_after failed before ≡ failed
+doubtful_of None before none = none
+doubtful_of (Some slip) before none = refl
+
 module _ {D : Type 0} (log_of : D → DiskLog) where
   -- ---- the run of a share
 
@@ -51,13 +57,8 @@ module _ {D : Type 0} (log_of : D → DiskLog) where
     pub whole : log.doubtful ≡ None
     pub found : Goes (λ n. n) (IsOpened v slips) (log_of disk) (log_of log.disk)
 
-  -- what is true of a journal after a run that was begun with another
-  pub record IsRun (log new : JournalValue D) : Type 0 where
-    pub known : is_known (log_of new.disk) ≡ is_known (log_of log.disk)
-    pub sound : IsKnown (log_of new.disk) → IsFileOf new.plan new.count new.doubtful (on (log_of new.disk))
-
-  module _ (v : Values) (slips : List Slip) (disk : D) (log new : JournalValue D)
-      (opened : HasOpened v slips disk log) (run : IsRun log new) where
+  module _ (v : Values) (slips : List Slip) (disk : D) (log new : JournalValue D) (opened : HasOpened v slips disk log)
+      (sound : IsKnown (log_of new.disk) → IsFileOf new.plan new.count new.doubtful (on (log_of new.disk))) where
     kept_first : IsKnown (log_of disk) → kept_slips log.plan log.count (on (log_of log.disk)) ≡ slips
     kept_first known =
         ap (λ (w : Values). kept_slips w log.count (on (log_of log.disk))) opened.plan
@@ -65,68 +66,114 @@ module _ {D : Type 0} (log_of : D → DiskLog) where
         ∙ ap (λ (r : Result (List Slip) JournalFault). take (length slips) (slips_of r)) (opened.found.state known).read
         ∙ take_all (length slips) slips (omega arith)
 
-    adds_to : (added : List Slip) (doubtful : Option Slip) → Adds log_of added log new
-        → new.doubtful ≡ doubtful
-        → AddsTo v slips added doubtful (log_of disk) (log_of new.disk)
-    adds_to added doubtful adds doubt = λ known.
+    adds_to : (added : List Slip) (failed : Option Slip) → Adds log_of added failed log new
+        → AddsTo v slips added failed (log_of disk) (log_of new.disk)
+    adds_to added failed adds = λ known.
         let first = kept_first known in
+        let doubt : new.doubtful ≡ failed = adds.doubtful ∙ doubtful_of failed log.doubtful opened.whole in
         let at_log : IsKnown (log_of log.disk) = opened.found.known ∙ known in
-        let file = run.sound (run.known ∙ at_log) in
+        let file = sound (adds.disk.known ∙ at_log) in
         let plan : new.plan ≡ v = adds.plan ∙ opened.plan in
         let kept : kept_slips new.plan new.count (on (log_of new.disk)) ≡ slips ++ added =
-        adds.kept at_log ∙ ap (λ (ss : List Slip). ss ++ added) first in
+        (adds.disk.state at_log).kept ∙ ap (λ (ss : List Slip). ss ++ added) first in
         record {
           found = (opened.found.state known).found;
           opened = on (log_of log.disk);
           opening = (opened.found.state known).moments;
           moments =
-              subst (λ (w : Values). AppendsEach w slips doubtful added (on (log_of log.disk)) (on (log_of new.disk))) opened.plan
-              (subst (λ (ss : List Slip). AppendsEach log.plan ss doubtful added (on (log_of log.disk)) (on (log_of new.disk)))
+              subst (λ (w : Values). AppendsEach w slips failed added (on (log_of log.disk)) (on (log_of new.disk))) opened.plan
+              (subst (λ (ss : List Slip). AppendsEach log.plan ss failed added (on (log_of log.disk)) (on (log_of new.disk)))
               first
               (subst (λ (o : Option Slip). AppendsEach log.plan (kept_slips log.plan log.count (on (log_of log.disk))) o added
-              (on (log_of log.disk)) (on (log_of new.disk))) doubt (adds.moments at_log)));
-          bytes = say_up_to v (slips ++ added) doubtful (on (log_of new.disk)).bytes
-              (subst (λ (w : Values). ReadsAs w (slips ++ added) doubtful (on (log_of new.disk)).bytes) plan
-              (subst (λ (ss : List Slip). ReadsAs new.plan ss doubtful (on (log_of new.disk)).bytes) kept
+              (on (log_of log.disk)) (on (log_of new.disk))) doubt (adds.disk.state at_log).moments));
+          bytes = say_up_to v (slips ++ added) failed (on (log_of new.disk)).bytes
+              (subst (λ (w : Values). ReadsAs w (slips ++ added) failed (on (log_of new.disk)).bytes) plan
+              (subst (λ (ss : List Slip). ReadsAs new.plan ss failed (on (log_of new.disk)).bytes) kept
               (subst (λ (o : Option Slip). ReadsAs new.plan (kept_slips new.plan new.count (on (log_of new.disk))) o
               (on (log_of new.disk)).bytes) doubt file.bytes)));
         }
 
-    -- the run ended with a fault
-    pub keeps_fault : (fault : ShareFault) (s : Share) (added : List Slip) → Adds log_of added log new
-        → EndsShare (Err fault) s v slips added log new
-        → EndsKeeping (Err (fault_of_share fault)) s v (log_of disk) (log_of new.disk)
-    keeps_fault share.OtherPlan s added adds ends = absurd (ends.0 opened.plan)
-    keeps_fault share.Broken s added adds ends =
-        absurd (not_some (subst (λ (o : Option Slip). IsSome o) opened.whole ends.2))
-    keeps_fault (share.BadSlip number) s added adds ends = (
-      slips,
-      (
-        subst (λ (ss : List Slip). AddsTo v slips ss None (log_of disk) (log_of new.disk)) ends.2
-            (adds_to added None adds (ap (λ (j : JournalValue D). j.doubtful) ends.3 ∙ opened.whole)),
-        ends.1,
-      ),
-    )
-    keeps_fault share.Memory s added adds ends = (
-      slips,
-      added,
-      (
-        adds_to added None adds (ap (λ (j : JournalValue D). j.doubtful) ends.2 ∙ opened.whole),
-        none_of_share s v slips added ends.1,
-        inl ends.1,
-      ),
-    )
-    keeps_fault share.WorkMemory s added adds ends = (
-      slips,
-      added,
-      (adds_to added None adds (ends.3.doubtful ∙ opened.whole), ends.1, inr (ends.0.good, ends.2)),
-    )
-    keeps_fault share.Disk s added adds ends = (
-      slips,
-      added,
+    adds_at : (added : List Slip) (failed some : Option Slip) → failed ≡ some → Adds log_of added failed log new
+        → AddsTo v slips added some (log_of disk) (log_of new.disk)
+    adds_at added failed some is adds =
+        subst (λ (o : Option Slip). AddsTo v slips added o (log_of disk) (log_of new.disk)) is (adds_to added failed adds)
+
+    -- the run ended well
+    pub keeps_all : (n : ℕ) (s : Share) → EndsShare log_of (Ok n) s v slips log new
+        → EndsKeeping (Ok n) s v (log_of disk) (log_of new.disk)
+    keeps_all n s (added, failed, ends) = (
       ends.1.0,
-      (adds_to added (Some ends.1.0) adds ends.1.1.1.doubtful, ends.0.good, ends.1.1.0),
+      record {
+        slips = slips;
+        added = added;
+        adds = adds_at added failed None ends.1.4 ends.0;
+        good = ends.1.1.good;
+        own = ends.1.2;
+        whole = ends.1.3;
+      },
     )
+
+    -- or with a fault
+    pub keeps_fault : (fault : StoreFault) (s : Share) → EndsShare log_of (Err fault) s v slips log new
+        → EndsKeeping (Err (fault_of_share fault)) s v (log_of disk) (log_of new.disk)
+    keeps_fault store.OtherPlan s (added, failed, ends) = absurd (ends.1.0 opened.plan)
+    keeps_fault store.Broken s (added, failed, ends) =
+        absurd (not_some (subst (λ (o : Option Slip). IsSome o) opened.whole ends.1.2))
+    keeps_fault (store.BadSlip number) s (added, failed, ends) = (
+      slips,
+      (
+        subst (λ (ss : List Slip). AddsTo v slips ss None (log_of disk) (log_of new.disk)) ends.1.2.0
+            (adds_at added failed None ends.1.2.1 ends.0),
+        ends.1.1,
+      ),
+    )
+    keeps_fault store.Memory s (added, failed, ends) = (
+      slips,
+      added,
+      (
+        adds_at added failed None ends.1.1.1 ends.0,
+        none_of_share s v slips added ends.1.1.0,
+        inl ends.1.1.0,
+      ),
+    )
+    keeps_fault store.WorkMemory s (added, failed, ends) = (
+      slips,
+      added,
+      (adds_at added failed None ends.1.3 ends.0, ends.1.1, inr (ends.1.0.good, ends.1.2)),
+    )
+    keeps_fault store.Disk s (added, failed, ends) = (
+      slips,
+      added,
+      ends.1.1.0,
+      (adds_at added failed (Some ends.1.1.0) ends.1.1.1.1 ends.0, ends.1.0.good, ends.1.1.1.0),
+    )
+    keeps_fault fault s (added, failed, ends) = absurd ends.1
+
+    -- how many calls of the disk failed
+    pub counts_all : (n : ℕ) (s : Share) → EndsShare log_of (Ok n) s v slips log new
+        → (log_of new.disk).failed ≡ (log_of disk).failed
+    counts_all n s (added, failed, ends) =
+        ends.0.disk.faults ∙ ap (λ (o : Option Slip). failures_after o (log_of log.disk).failed) ends.1.4
+        ∙ opened.found.faults
+
+    pub counts_fault : (fault : StoreFault) (s : Share) → EndsShare log_of (Err fault) s v slips log new
+        → (log_of new.disk).failed ≡ disk_faults_after {T = ℕ} (Err (fault_of_share fault)) (log_of disk).failed
+    counts_fault store.OtherPlan s (added, failed, ends) = absurd (ends.1.0 opened.plan)
+    counts_fault store.Broken s (added, failed, ends) =
+        absurd (not_some (subst (λ (o : Option Slip). IsSome o) opened.whole ends.1.2))
+    counts_fault (store.BadSlip number) s (added, failed, ends) =
+        ends.0.disk.faults ∙ ap (λ (o : Option Slip). failures_after o (log_of log.disk).failed) ends.1.2.1
+        ∙ opened.found.faults
+    counts_fault store.Memory s (added, failed, ends) =
+        ends.0.disk.faults ∙ ap (λ (o : Option Slip). failures_after o (log_of log.disk).failed) ends.1.1.1
+        ∙ opened.found.faults
+    counts_fault store.WorkMemory s (added, failed, ends) =
+        ends.0.disk.faults ∙ ap (λ (o : Option Slip). failures_after o (log_of log.disk).failed) ends.1.3
+        ∙ opened.found.faults
+    counts_fault store.Disk s (added, failed, ends) =
+        ends.0.disk.faults ∙ ap (λ (o : Option Slip). failures_after o (log_of log.disk).failed) ends.1.1.1.1
+        ∙ ap one_more opened.found.faults
+    counts_fault fault s (added, failed, ends) = absurd ends.1
 
 -- ---- what is written
 

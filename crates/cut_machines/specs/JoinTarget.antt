@@ -4,7 +4,7 @@ use Rattle.cut_plan.specs.Values.{Values}
 use Rattle.cut_disks.specs.State.{DiskState}
 use Rattle.cut_ledger.specs.declared.slip.Slip.{Slip}
 use Rattle.cut_shares.specs.join.Joined.{joined}
-use Rattle.cut_migration.specs.declared.fault.MigrateFault.TheVariants as migration
+use Rattle.cut_journal.specs.declared.store_fault.StoreFault.TheVariants as store
 use Rattle.cut_commands.specs.Faults.{IsRefusalOfNew}
 use Rattle.cut_commands.specs.NewStudy.{LeavesNew}
 use Rattle.cut_commands.specs.declared.fault.CliFault.{CliFault}
@@ -18,5 +18,5 @@ LeavesDisk result v slips old new = LeavesNew result v (joined v slips) old new
 abbrev pub StopsWriting : CliFault → Type 0
 StopsWriting Memory = ⊤
 StopsWriting (Journal fault) = IsRefusalOfNew fault
-StopsWriting (Migrate migration.Disk) = ⊤
+StopsWriting (Migrate store.Disk) = ⊤
 StopsWriting fault = ⊥

@@ -15,13 +15,13 @@ use Rattle.cut_journal.specs.declared.fault.JournalFault.TheVariants as journal
 use Rattle.cut_journal.specs.Journal.{AppendsEach}
 use Rattle.cut_journal.specs.Opening.{IsFoundOn, IsOpenFault, IsOpening}
 use Rattle.cut_journal.specs.Reading.{reading}
-use Rattle.cut_shares.specs.declared.share.fault.ShareFault.{ShareFault}
-use Rattle.cut_shares.specs.declared.share.fault.ShareFault.TheVariants as share
+use Rattle.cut_journal.specs.declared.store_fault.StoreFault.{StoreFault}
+use Rattle.cut_journal.specs.declared.store_fault.StoreFault.TheVariants as store
 use Rattle.cut_shares.specs.declared.share.share.Share.{Share}
 use Rattle.cut_shares.specs.share.Running.{AreOfShare, AreWhole, IsNotDone}
 use Rattle.cut_shares.specs.share.Share.{trials_of_share}
 use Rattle.cut_wires.specs.Log.{WireLog}
-use Rattle.cut_commands.specs.Faults.{fault_of_files}
+use Rattle.cut_commands.specs.Faults.{fault_of_files, fault_of_store}
 use Rattle.cut_commands.specs.Run.{CommandAnswers, EndsRead, GivesPlanFrom, HasUnread}
 use Rattle.cut_commands.specs.Study.{MayStop}
 use Rattle.cut_commands.specs.Task.{Task}
@@ -128,13 +128,12 @@ disk_faults_after (Err Checkpoint) n = one_more n
 disk_faults_after result n = n
 
 -- the fault of the program if a share was not run to its end
-abbrev pub fault_of_share : ShareFault → CliFault
-fault_of_share (share.BadSlip number) = BadSlip number
-fault_of_share share.Disk = Checkpoint
-fault_of_share share.Memory = WorkMemory
-fault_of_share share.WorkMemory = WorkMemory
-fault_of_share share.OtherPlan = Journal journal.OtherPlan
-fault_of_share share.Broken = Journal journal.Broken
+abbrev pub fault_of_share : StoreFault → CliFault
+fault_of_share (store.BadSlip number) = BadSlip number
+fault_of_share store.Disk = Checkpoint
+fault_of_share store.Memory = WorkMemory
+fault_of_share store.WorkMemory = WorkMemory
+fault_of_share fault = fault_of_store fault
 
 -- how the command ends over a disk, by where its plan is read from, and what it leaves there
 pub record SharesOn (plan : Option Place) (ended : Result ⊤ CliFault) (s : Share) (disk back : DiskLog) (old new : WireLog)

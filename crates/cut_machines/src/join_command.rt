@@ -17,6 +17,7 @@ use crate::join_target::{Written, write_joined};
 use cut_commands::{CliFault, PlanSource, write_answer};
 use cut_disks::Disk;
 use cut_files::{Files, Mode};
+use cut_journal::AcceptedSlips;
 use cut_ledger::Slip;
 use cut_plan::Plan;
 use cut_shares::join::laws;
@@ -173,7 +174,7 @@ fn join_slips_of<F: Files>(
     ensures stays { StaysOpen (F.log files.old) (F.log files.new) }
 {
     match judged_slips(files, alloc, plan, old) {
-        Ok(slips) => join_slips(alloc, plan, &slips, disk),
+        Ok(accepted) => join_slips(alloc, &accepted, disk),
         Err(unjoined) => Answered {
             disk,
             refused: unjoined.refused,
@@ -185,22 +186,21 @@ fn join_slips_of<F: Files>(
 /// Writes slips of a plan, joined, to a new checkpoint, and says how many there are.
 fn join_slips<N: Disk + Drop>(
     alloc: Global,
-    plan: &Plan,
-    slips: &[Slip],
+    accepted: &AcceptedSlips<'_>,
     disk: N,
 ) -> Answered<N, String>
-    requires { AreGood plan.now slips.now }
-    ensures text { IfOk result.ended (λ text. string_bytes text ≡ joined_text plan.now slips.now) }
+    ensures text { IfOk result.ended
+        (λ text. string_bytes text ≡ joined_text accepted.now.plan accepted.now.slips) }
     ensures stops { IfErr result.ended StopsWriting }
-    ensures left { IsKnown (N.log disk) →
-        LeavesDisk result.ended plan.now slips.now (on (N.log disk)) (on (N.log result.disk)) }
+    ensures left { IsKnown (N.log disk) → LeavesDisk result.ended accepted.now.plan accepted.now.slips
+        (on (N.log disk)) (on (N.log result.disk)) }
     ensures known { is_known (N.log result.disk) ≡ is_known (N.log disk) }
     ensures faults { (N.log result.disk).failed ≡ writing_faults result.ended (N.log disk).failed }
     ensures none { result.refused ≡ None }
 {
-    let Written { disk, count } = write_joined(alloc, plan, slips, disk);
+    let Written { disk, count } = write_joined(alloc, accepted, disk);
     let ended = match count {
-        Ok(count) => joined_text(alloc, plan, slips, count),
+        Ok(count) => joined_text(alloc, accepted.plan(), accepted.slips(), count),
         Err(fault) => Err(fault),
     };
     Answered {

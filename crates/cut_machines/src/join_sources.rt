@@ -6,16 +6,14 @@ ghost use Rattle.cut_files.specs.Place as place;
 ghost use Rattle.cut_ledger.specs.Slips.{AreGood};
 ghost use Rattle.cut_machines.specs.JoinSources.{AreRead, HoldAll, Holds, StopsReading};
 ghost use Rattle.cut_machines.specs.inside.JoinSources.{AddsHeld, HaveBadSlip, IsUnopened, IsUnread, LeavesFile};
-ghost use Rattle.cut_machines.specs.inside.JoinSources.{NamesFile, StaysOpen, cli_fault_of, refused_at};
+ghost use Rattle.cut_machines.specs.inside.JoinSources.{NamesFile, StaysOpen, fault_of_slips, refused_at};
 
 use cut_commands::CliFault;
 use cut_disks::Disk;
 use cut_files::{Files, Mode};
-use cut_journal::Journal;
-use cut_ledger::Slip;
-use cut_migration::MigrateFault;
+use cut_journal::{AcceptedSlips, Journal};
+use cut_ledger::{Slip, SlipsFault};
 use cut_plan::Plan;
-use cut_shares::join::{JoinFault, judge};
 use std::alloc::Global;
 
 /// Why checkpoints are not joined: the fault, and which of them is refused, from 1, if one is.
@@ -26,15 +24,17 @@ pub(crate) struct Unjoined {
 }
 
 /// The slips that the files at some paths hold for a plan, in the order of the paths, judged as one list.
-pub(crate) fn judged_slips<F: Files>(
+pub(crate) fn judged_slips<'a, F: Files>(
     files: &mut F,
     alloc: Global,
-    plan: &Plan,
+    plan: &'a Plan,
     paths: &[&str],
-) -> Result<Vec<Slip>, Unjoined>
-    ensures held { IfOk result (λ slips. HoldAll (F.log files.old) (map (λ s. s.now) paths.now) plan.now slips.items) }
+) -> Result<AcceptedSlips<'a>, Unjoined>
+    ensures plan { IfOk result (λ accepted. accepted.plan ≡ plan.now) }
+    ensures held { IfOk result (λ accepted. HoldAll (F.log files.old) (map (λ s. s.now) paths.now) plan.now
+        accepted.slips) }
     ensures read { OnOk result (AreRead (F.log files.old) (F.log files.new) (map (λ s. s.now) paths.now)) }
-    ensures good { IfOk result (λ slips. AreGood plan.now slips.items) }
+    ensures good { IfOk result (λ accepted. AreGood plan.now accepted.slips) }
     ensures stops { IfErr result (λ e. StopsReading (F.log files.old) (F.log files.new) (map (λ s. s.now) paths.now)
         plan.now e.fault) }
     ensures names { IfErr result (λ e. NamesFile (F.log files.old) (F.log files.new) (map (λ s. s.now) paths.now)
@@ -45,18 +45,33 @@ pub(crate) fn judged_slips<F: Files>(
 }
 
 /// Slips of a plan, if a ledger can begin with them.
-fn check_slips(alloc: Global, plan: &Plan, slips: Vec<Slip>) -> Result<Vec<Slip>, Unjoined>
-    ensures same { IfOk result (λ found. found.items ≡ slips.items) }
-    ensures good { IfOk result (λ found. AreGood plan.now found.items) }
+fn check_slips<'a>(
+    alloc: Global,
+    plan: &'a Plan,
+    slips: Vec<Slip>,
+) -> Result<AcceptedSlips<'a>, Unjoined>
+    ensures plan { IfOk result (λ accepted. accepted.plan ≡ plan.now) }
+    ensures same { IfOk result (λ accepted. accepted.slips ≡ slips.items) }
+    ensures good { IfOk result (λ accepted. AreGood plan.now accepted.slips) }
     ensures stops { IfErr result (λ e. HaveBadSlip plan.now slips.items e.fault) }
     ensures none { IfErr result (λ e. e.refused ≡ None) }
 {
-    match judge(alloc, plan, &slips) {
-        Ok(()) => Ok(slips),
+    match AcceptedSlips::judge(alloc, plan, slips) {
+        Ok(accepted) => Ok(accepted),
         Err(fault) => Err(Unjoined {
-            fault: cli_fault_of(fault),
+            fault: fault_of_slips(fault),
             refused: None,
         }),
+    }
+}
+
+/// The fault of the program where slips were not accepted.
+fn fault_of_slips(fault: SlipsFault) -> CliFault
+    ensures { result ≡ fault_of_slips fault }
+{
+    match fault {
+        SlipsFault::Memory => CliFault::Memory,
+        SlipsFault::BadSlip(number) => CliFault::BadSlip(number),
     }
 }
 
@@ -141,18 +156,5 @@ fn slips_on<O: Disk + Drop>(alloc: Global, plan: &Plan, disk: O) -> (Result<Vec<
     match Journal::reopen(alloc, disk, plan) {
         Ok((journal, slips)) => (Ok(slips), journal.into_disk()),
         Err((fault, disk)) => (Err(CliFault::from(fault)), disk),
-    }
-}
-
-/// The fault of a join as the program reports it. A disk that fails is reported as a migration does.
-pub(crate) fn cli_fault_of(fault: JoinFault) -> CliFault
-    ensures { result ≡ cli_fault_of fault }
-{
-    match fault {
-        JoinFault::Memory => CliFault::Memory,
-        JoinFault::BadSlip(number) => CliFault::BadSlip(number),
-        JoinFault::OtherPlan => CliFault::Migrate(MigrateFault::OtherPlan),
-        JoinFault::Broken => CliFault::Migrate(MigrateFault::Broken),
-        JoinFault::Disk => CliFault::Migrate(MigrateFault::Disk),
     }
 }

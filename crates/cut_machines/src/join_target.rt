@@ -2,19 +2,14 @@
 
 ghost use Rattle.std.specs.Prelude.{◌≡◌, ◌↔◌, IfErr, IfOk, OnOk, length};
 ghost use Rattle.cut_disks.specs.Log.{IsKnown, is_known, on};
-ghost use Rattle.cut_ledger.specs.Slips.{AreGood};
 ghost use Rattle.cut_shares.specs.join.Joined.{joined};
-ghost use Rattle.cut_commands.specs.NewStudy.{SaysAllOf, writing_faults};
+ghost use Rattle.cut_commands.specs.NewStudy.{HasPart, IsNewJournal, SaysAllOf, writing_faults};
 ghost use Rattle.cut_machines.specs.JoinTarget.{LeavesDisk, StopsWriting};
-ghost use Rattle.cut_machines.specs.inside.JoinTarget.{IsNewJournal, IsPartWritten};
 ghost use Rattle.cut_machines.specs.inside.JoinTarget.{StopsFilling};
 
-use crate::join_sources::cli_fault_of;
 use cut_commands::CliFault;
 use cut_disks::Disk;
-use cut_journal::Journal;
-use cut_ledger::Slip;
-use cut_plan::Plan;
+use cut_journal::{AcceptedSlips, Journal};
 use cut_shares::join::join;
 use std::alloc::Global;
 
@@ -25,23 +20,21 @@ pub(crate) struct Written<N> {
     pub(crate) count: Result<u64, CliFault>,
 }
 
-/// Makes a journal of a plan on an unclaimed disk, and writes slips to it, joined.
+/// Makes a journal of a plan on an unclaimed disk, and writes slips of the plan to it, joined.
 pub(crate) fn write_joined<N: Disk + Drop>(
     alloc: Global,
-    plan: &Plan,
-    slips: &[Slip],
+    accepted: &AcceptedSlips<'_>,
     disk: N,
 ) -> Written<N>
-    requires { AreGood plan.now slips.now }
     ensures left { IsKnown (N.log disk) →
-        LeavesDisk result.count plan.now slips.now (on (N.log disk)) (on (N.log result.disk)) }
-    ensures count { IfOk result.count (λ n. n ≡ length (joined plan.now slips.now)) }
+        LeavesDisk result.count accepted.now.plan accepted.now.slips (on (N.log disk)) (on (N.log result.disk)) }
+    ensures count { IfOk result.count (λ n. n ≡ length (joined accepted.now.plan accepted.now.slips)) }
     ensures stops { IfErr result.count StopsWriting }
     ensures known { is_known (N.log result.disk) ≡ is_known (N.log disk) }
     ensures faults { (N.log result.disk).failed ≡ writing_faults result.count (N.log disk).failed }
 {
-    match Journal::claim(alloc, disk, plan) {
-        Ok(journal) => fill_journal(alloc, plan, slips, journal),
+    match Journal::claim(alloc, disk, accepted.plan()) {
+        Ok(journal) => fill_journal(alloc, accepted, journal),
         Err((fault, disk)) => Written {
             disk,
             count: Err(CliFault::from(fault)),
@@ -52,25 +45,25 @@ pub(crate) fn write_joined<N: Disk + Drop>(
 /// Writes slips, joined, to a journal of their plan that has none yet.
 fn fill_journal<N: Disk>(
     alloc: Global,
-    plan: &Plan,
-    slips: &[Slip],
+    accepted: &AcceptedSlips<'_>,
     journal: Journal<N>,
 ) -> Written<N>
-    requires good { AreGood plan.now slips.now }
-    requires new { IsNewJournal plan.now journal }
+    requires { IsNewJournal accepted.now.plan journal }
     ensures part { IsKnown (N.log journal.disk) →
-        IsPartWritten plan.now slips.now (on (N.log journal.disk)) (on (N.log result.disk)) }
+        HasPart accepted.now.plan (joined accepted.now.plan accepted.now.slips) (on (N.log journal.disk))
+        (on (N.log result.disk)) }
     ensures all { IsKnown (N.log journal.disk) →
-        OnOk result.count (SaysAllOf plan.now (joined plan.now slips.now) (on (N.log result.disk))) }
-    ensures count { IfOk result.count (λ n. n ≡ length (joined plan.now slips.now)) }
+        OnOk result.count (SaysAllOf accepted.now.plan (joined accepted.now.plan accepted.now.slips)
+        (on (N.log result.disk))) }
+    ensures count { IfOk result.count (λ n. n ≡ length (joined accepted.now.plan accepted.now.slips)) }
     ensures stops { IfErr result.count StopsFilling }
     ensures known { is_known (N.log result.disk) ≡ is_known (N.log journal.disk) }
     ensures faults { (N.log result.disk).failed ≡ writing_faults result.count (N.log journal.disk).failed }
 {
     let mut journal = journal;
-    let count = match join(alloc, plan, slips, &mut journal) {
+    let count = match join(alloc, accepted, &mut journal) {
         Ok(count) => Ok(count),
-        Err(fault) => Err(cli_fault_of(fault)),
+        Err(fault) => Err(CliFault::from(fault)),
     };
     Written {
         disk: journal.into_disk(),

@@ -9,10 +9,10 @@ use crate::share_answer::share_line;
 use cut_commands::{CliFault, PlanSource, write_answer};
 use cut_disks::Disk;
 use cut_files::{Files, Mode};
-use cut_journal::{Journal, JournalFault};
+use cut_journal::{Journal, StoreFault};
 use cut_outcome::Gate;
 use cut_plan::Plan;
-use cut_shares::share::{Share, ShareFault, ShareRun};
+use cut_shares::share::{Share, ShareRun};
 use cut_wires::Wire;
 use std::alloc::Global;
 use std::sync::Wait;
@@ -183,16 +183,15 @@ where
     }
 }
 
-/// The fault of the program if a share was not run to its end. A journal that was just opened is of the plan and not
-/// broken, so the last two do not come.
-fn fault_of_share(fault: ShareFault) -> CliFault
+/// The fault of the program if a share was not run to its end: as of a study that is run. A journal that was just opened
+/// is of the plan and not broken, so the last ones do not come.
+fn fault_of_share(fault: StoreFault) -> CliFault
     ensures { result ≡ fault_of_share fault }
 {
     match fault {
-        ShareFault::BadSlip(number) => CliFault::BadSlip(number),
-        ShareFault::Disk => CliFault::Checkpoint,
-        ShareFault::Memory | ShareFault::WorkMemory => CliFault::WorkMemory,
-        ShareFault::OtherPlan => CliFault::Journal(JournalFault::OtherPlan),
-        ShareFault::Broken => CliFault::Journal(JournalFault::Broken),
+        StoreFault::BadSlip(number) => CliFault::BadSlip(number),
+        StoreFault::Disk => CliFault::Checkpoint,
+        StoreFault::Memory | StoreFault::WorkMemory => CliFault::WorkMemory,
+        fault => CliFault::from(fault),
     }
 }

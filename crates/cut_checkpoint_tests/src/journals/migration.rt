@@ -3,9 +3,9 @@
 use super::SMALL;
 use super::failing::slips_found;
 use cut_disks::{FaultyDisk, Tear};
-use cut_journal::Journal;
+use cut_journal::{Journal, StoreFault};
 use cut_ledger::Slip;
-use cut_migration::{MigrateFault, migrate};
+use cut_migration::migrate;
 use cut_outcome::{Piece, Totals};
 use cut_plan::Plan;
 use std::alloc::{AllocError, Global};
@@ -35,7 +35,7 @@ fn is_answered(alloc: Global, plan: &Plan, journal: &mut Journal<FaultyDisk>, fa
         return first == Ok(2);
     }
     let second = migrate(alloc, &slips, plan, journal);
-    first == Err(MigrateFault::Disk) && second == Err(MigrateFault::Broken)
+    first == Err(StoreFault::Disk) && second == Err(StoreFault::Broken)
 }
 
 /// Whether the moving of two slips answers so if this call of the disk fails, and as many are found then.

@@ -1,32 +1,25 @@
 -- What only the crate's own clauses and proofs cite, beside specs/Migrate.antt.
-use Rattle.std.specs.Prelude.{◌≡◌, ◌⊎◌, ◌-◌, ℕ, List, [], length, None, Result, Ok, Err, ⊤}
+use Rattle.std.specs.Prelude.{◌≡◌, ◌⊎◌, ◌-◌, ℕ, List, [], length, Result, Ok, Err, ⊤}
 use Rattle.cut_faults.specs.Failures.{one_more}
 use Rattle.cut_fields.specs.declared.version.Version.TheVariants.{One, Two}
 use Rattle.cut_plan.specs.Failing.{version_of}
 use Rattle.cut_plan.specs.Targets.{upgraded}
 use Rattle.cut_plan.specs.Values.{Values}
-use Rattle.cut_disks.specs.State.{DiskState, Throughout}
 use Rattle.cut_disks.specs.Log.{DiskLog, Goes}
 use Rattle.cut_ledger.specs.declared.slip.Slip.{Slip}
 use Rattle.cut_ledger.specs.Slips.{AreGood, IsFirstBad}
 use Rattle.cut_journal.specs.declared.fault.JournalFault.TheVariants as journal
-use Rattle.cut_journal.specs.Journal.{JournalValue, fault_counts}
+use Rattle.cut_journal.specs.Journal.{fault_counts}
 use Rattle.cut_journal.specs.Opening.{IsNotClaimed, IsRead, IsRefused}
-use Rattle.cut_migration.specs.declared.fault.MigrateFault.TheVariants as migration
+use Rattle.cut_journal.specs.declared.store_fault.StoreFault.TheVariants as store
 use Rattle.cut_migration.specs.Migration.{AreTrueUpTo, IsFirstUntrue, first_moved}
 use Rattle.cut_wires.specs.Log.{WireLog}
 use Rattle.cut_commands.specs.Faults.{IsRefusalOfNew, IsRefusalOfOld}
 use Rattle.cut_commands.specs.Migrate.{IsFree, all_moved, moved_text}
-use Rattle.cut_commands.specs.NewStudy.{IsBegun, IsFilled, SaysAllOf, SaysFirstOf}
+use Rattle.cut_commands.specs.NewStudy.{HasAll, HasPart, IsBegun, IsFilled}
 use Rattle.cut_commands.specs.Run.{IsWritten}
 use Rattle.cut_commands.specs.declared.fault.CliFault.{CliFault}
 use Rattle.cut_commands.specs.declared.fault.CliFault.TheVariants.{Memory, Journal, Migrate}
-
--- a journal of a plan that has no slips yet
-pub record IsNewJournal {D : Type 0} (v : Values) (journal : JournalValue D) : Type 0 where
-  pub plan : journal.plan ≡ v
-  pub empty : journal.count ≡ 0
-  pub whole : journal.doubtful ≡ None
 
 -- why an old disk says no slips, and what is left of it
 abbrev pub IsOldRefused : CliFault → Values → DiskLog → DiskLog → Type 0
@@ -34,30 +27,20 @@ IsOldRefused Memory v old new = Goes (λ n. n) (IsRead journal.Memory) old new
 IsOldRefused (Journal fault) v old new = IsRefusalOfOld fault × Goes (fault_counts fault) (IsRefused v fault) old new
 IsOldRefused fault v old new = ⊥
 
--- some first ones of these slips were written to a journal that had none
-pub record HasPart (v : Values) (slips : List Slip) (old new : DiskState) : Type 0 where
-  pub bytes : SaysFirstOf v slips new.bytes
-  pub moments : Throughout old new (SaysFirstOf v slips)
-
--- and all of them
-pub record HasAll (v : Values) (slips : List Slip) (old new : DiskState) : Type 0 where
-  pub part : HasPart v slips old new
-  pub all : SaysAllOf v slips new
-
--- what the moving of slips to such a journal leaves, by how it ends
+-- what the moving of slips to a journal that has none yet leaves, by how it ends
 abbrev pub Fills : Result ℕ CliFault → Values → List Slip → DiskLog → DiskLog → Type 0
 Fills (Ok n) v ss old new =
     (n ≡ length ss) × (version_of v.failing ≡ One) × AreGood v ss × AreTrueUpTo v ss (length ss)
     × Goes (λ n. n) (HasAll (upgraded v) (all_moved v ss)) old new
 Fills (Err Memory) v ss old new = Goes (λ n. n) (HasPart (upgraded v) (all_moved v ss)) old new
-Fills (Err (Migrate migration.NotVersion1)) v ss old new =
+Fills (Err (Migrate store.NotVersion1)) v ss old new =
     (version_of v.failing ≡ Two) × Goes (λ n. n) (HasAll (upgraded v) []) old new
-Fills (Err (Migrate (migration.BadSlip n))) v ss old new =
+Fills (Err (Migrate (store.BadSlip n))) v ss old new =
     (version_of v.failing ≡ One) × IsFirstBad v ss n × Goes (λ n. n) (HasAll (upgraded v) []) old new
-Fills (Err (Migrate (migration.Disagrees n))) v ss old new =
+Fills (Err (Migrate (store.Disagrees n))) v ss old new =
     (version_of v.failing ≡ One) × AreGood v ss × IsFirstUntrue v ss n
     × Goes (λ n. n) (HasAll (upgraded v) (first_moved v ss (n - 1))) old new
-Fills (Err (Migrate migration.Disk)) v ss old new =
+Fills (Err (Migrate store.Disk)) v ss old new =
     (version_of v.failing ≡ One) × AreGood v ss × Goes one_more (HasPart (upgraded v) (all_moved v ss)) old new
 Fills (Err fault) v ss old new = ⊥
 
@@ -70,14 +53,14 @@ EndsFilling (Err Memory) v ss old new =
     Goes (λ n. n) (λ old new. new ≡ old) old new ⊎ Goes (λ n. n) (IsBegun (upgraded v) (all_moved v ss)) old new
 EndsFilling (Err (Journal fault)) v ss old new =
     IsRefusalOfNew fault × Goes (fault_counts fault) (IsNotClaimed (upgraded v) fault) old new
-EndsFilling (Err (Migrate migration.NotVersion1)) v ss old new =
+EndsFilling (Err (Migrate store.NotVersion1)) v ss old new =
     (version_of v.failing ≡ Two) × IsFree old × Goes (λ n. n) (IsFilled (upgraded v) []) old new
-EndsFilling (Err (Migrate (migration.BadSlip n))) v ss old new =
+EndsFilling (Err (Migrate (store.BadSlip n))) v ss old new =
     (version_of v.failing ≡ One) × IsFirstBad v ss n × IsFree old × Goes (λ n. n) (IsFilled (upgraded v) []) old new
-EndsFilling (Err (Migrate (migration.Disagrees n))) v ss old new =
+EndsFilling (Err (Migrate (store.Disagrees n))) v ss old new =
     (version_of v.failing ≡ One) × AreGood v ss × IsFirstUntrue v ss n × IsFree old
     × Goes (λ n. n) (IsFilled (upgraded v) (first_moved v ss (n - 1))) old new
-EndsFilling (Err (Migrate migration.Disk)) v ss old new =
+EndsFilling (Err (Migrate store.Disk)) v ss old new =
     (version_of v.failing ≡ One) × AreGood v ss × IsFree old
     × Goes one_more (IsBegun (upgraded v) (all_moved v ss)) old new
 EndsFilling (Err fault) v ss old new = ⊥

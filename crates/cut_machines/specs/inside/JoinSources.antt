@@ -3,14 +3,13 @@ use Rattle.std.specs.Prelude.{◌≡◌, ◌⊎◌, ◌++◌, ℕ, List, Result,
 use Rattle.cut_plan.specs.Values.{Values}
 use Rattle.cut_files.specs.Place.{Place, IsOpen}
 use Rattle.cut_ledger.specs.declared.slip.Slip.{Slip}
+use Rattle.cut_ledger.specs.declared.slips_fault.SlipsFault.{SlipsFault}
+use Rattle.cut_ledger.specs.declared.slips_fault.SlipsFault.TheVariants as slips
 use Rattle.cut_ledger.specs.Slips.{IsFirstBad}
 use Rattle.cut_journal.specs.declared.fault.JournalFault.{JournalFault}
 use Rattle.cut_journal.specs.declared.fault.JournalFault.TheVariants as journal
-use Rattle.cut_shares.specs.declared.join.fault.JoinFault.{JoinFault}
-use Rattle.cut_shares.specs.declared.join.fault.JoinFault.TheVariants as join
-use Rattle.cut_migration.specs.declared.fault.MigrateFault.TheVariants as migration
 use Rattle.cut_commands.specs.declared.fault.CliFault.{CliFault}
-use Rattle.cut_commands.specs.declared.fault.CliFault.TheVariants.{Memory, Journal, BadSlip, Migrate}
+use Rattle.cut_commands.specs.declared.fault.CliFault.TheVariants.{Memory, Journal, BadSlip}
 use Rattle.cut_machines.specs.JoinSources.{HaveRunOut, Holds, IsFirstRefused, IsRefused, IsRefusedAt}
 use Rattle.cut_machines.specs.JoinSources.{failed_once, read_times}
 
@@ -68,10 +67,7 @@ abbrev pub refused_at : ℕ → CliFault → Option ℕ
 refused_at number (Journal fault) = Some number
 refused_at number fault = None
 
--- the fault of a join as the program reports it
-abbrev pub cli_fault_of : JoinFault → CliFault
-cli_fault_of join.Memory = Memory
-cli_fault_of (join.BadSlip number) = BadSlip number
-cli_fault_of join.OtherPlan = Migrate migration.OtherPlan
-cli_fault_of join.Broken = Migrate migration.Broken
-cli_fault_of join.Disk = Migrate migration.Disk
+-- the fault of the program where slips were not accepted
+abbrev pub fault_of_slips : SlipsFault → CliFault
+fault_of_slips slips.Memory = Memory
+fault_of_slips (slips.BadSlip number) = BadSlip number

@@ -1,7 +1,7 @@
 use Rattle.std.proofs.Common.{ℕ, List, Result, Ok, Err, sym, subst}
 use Rattle.cut_plan.specs.Values.{Values}
 use Rattle.cut_ledger.specs.declared.slip.Slip.{Slip}
-use Rattle.cut_commands.specs.Faults.{fault_of_migration}
+use Rattle.cut_commands.specs.Faults.{fault_of_store}
 use Rattle.cut_commands.specs.inside.Migrate.{Fills}
 use Rattle.cut_commands.proofs.MigrateLemmas.{fills_all, fills_some}
 use Rattle.cut_commands.proofs.migrate_command.fill_journal.Goals.{in-Ok, in-Err}
@@ -13,16 +13,13 @@ returns g c =
     let ss : List Slip = c.args.slips.now in
     let old = c.args.journal in
     let new = c.migrate.new.journal in
-    let one = g.N.Disk.log old.disk in
-    let other = g.N.Disk.log new.disk in
     elim c.match-migrate.branch [
       | in-Ok w ↦ rw w.count-is
-          (subst (λ d. Fills (Ok w.in-Ok.count) v ss one (g.N.Disk.log d)) (sym c.into_disk.ensures.disk)
-          (fills_all v ss old new one other c.requires.new c.migrate.ensures.known c.migrate.ensures.moments
-          c.migrate.ensures.kept c.into_disk.ensures.sound w.in-Ok.count w.in-Ok.ensures.ends w.in-Ok.ensures.faults))
+          (subst (λ d. Fills (Ok w.in-Ok.count) v ss (g.N.Disk.log old.disk) (g.N.Disk.log d)) (sym c.into_disk.ensures.disk)
+          (fills_all g.N.Disk.log v ss old new c.requires.new c.into_disk.ensures.sound w.in-Ok.count w.in-Ok.ensures.ends))
       | in-Err w ↦ rw (w.count-is, w.from.ensures)
-          (subst (λ d. Fills (Err (fault_of_migration w.in-Err.fault)) v ss one (g.N.Disk.log d))
+          (subst (λ d. Fills (Err (fault_of_store w.in-Err.fault)) v ss (g.N.Disk.log old.disk) (g.N.Disk.log d))
           (sym c.into_disk.ensures.disk)
-          (fills_some v ss old new one other c.requires.new c.migrate.ensures.known c.migrate.ensures.moments
-          c.migrate.ensures.kept c.into_disk.ensures.sound w.in-Err.fault w.in-Err.ensures.ends w.in-Err.ensures.faults))
+          (fills_some g.N.Disk.log v ss old new c.requires.new c.into_disk.ensures.sound w.in-Err.fault
+          w.in-Err.ensures.ends))
     ]
