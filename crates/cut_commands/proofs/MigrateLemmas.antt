@@ -1,20 +1,16 @@
 -- What a migration leaves on its disks and writes, by its parts.
-use Rattle.std.proofs.Common.{◌≡◌, ◌∙◌, ◌++◌, ◌+◌, ◌-◌, ◌≤◌, ◌<◌, inl, inr, ℕ, zero, List, [], ◌∷◌, Option, Some, None}
-use Rattle.std.proofs.Common.{Bool, Result, Ok, Err, length, map, nat_lt, take, get_or, refl, sym, ap, subst, arith}
+use Rattle.std.proofs.Common.{◌≡◌, ◌∙◌, ◌++◌, ◌+◌, ◌-◌, ◌≤◌, ◌<◌, inl, inr, ℕ, List, [], ◌∷◌, Option, Some, None}
+use Rattle.std.proofs.Common.{Bool, Result, Ok, Err, length, nat_lt, take, refl, sym, ap, subst, arith}
 use Rattle.std.proofs.lemmas.List.{map_more, take_all, take-map}
 use Rattle.std.specs.Bool.{⊤}
 use Rattle.std.specs.Prelude.{IsSome, slice_index_or}
 use Rattle.cut_faults.specs.Failures.{one_more}
-use Rattle.cut_fields.specs.declared.version.Version.TheVariants.{One, Two}
-use Rattle.cut_plan.specs.Failing.{version_of}
 use Rattle.cut_plan.specs.Targets.{upgraded}
 use Rattle.cut_plan.specs.Values.{Values}
-use Rattle.cut_disks.specs.State.{DiskState, synced}
 use Rattle.cut_disks.specs.Log.{DiskLog, Goes, Knows, is_known, on}
 use Rattle.cut_files.specs.Place.{Place}
 use Rattle.cut_outcome.specs.Sum.{each_number}
 use Rattle.cut_ledger.specs.declared.slip.Slip.{Slip}
-use Rattle.cut_ledger.specs.Slips.{AreGood}
 use Rattle.cut_journal.specs.declared.fault.JournalFault.{JournalFault}
 use Rattle.cut_journal.specs.declared.fault.JournalFault.TheVariants as journal
 use Rattle.cut_journal.specs.Adding.{Adds, AddsNothing, failures_after}
@@ -28,9 +24,9 @@ use Rattle.cut_wires.specs.Log.{WireLog}
 use Rattle.cut_commands.specs.declared.fault.CliFault.{CliFault}
 use Rattle.cut_commands.specs.declared.fault.CliFault.TheVariants.{Memory, Plan, Read, Write, Journal, Migrate}
 use Rattle.cut_commands.specs.Faults.{fault_of_journal, fault_of_store}
-use Rattle.cut_commands.specs.Migrate.{AreStill, EndsMove, HasMovedAll, Holds, IsFree, LeavesSome, LeavesStill, MigrateDisks}
-use Rattle.cut_commands.specs.Migrate.{Migrates, MigratesFrom, WasRead, all_moved, migrate_task, moved_text}
-use Rattle.cut_commands.specs.NewStudy.{HasAll, HasPart, IsBegun, IsFilled, IsNewJournal}
+use Rattle.cut_commands.specs.Migrate.{AreStill, EndsMove, HasMovedAll, IsFree, LeavesSome, LeavesStill, MigrateDisks}
+use Rattle.cut_commands.specs.Migrate.{MigratesFrom, WasRead, all_moved, migrate_task, moved_text}
+use Rattle.cut_commands.specs.NewStudy.{HasAll, HasPart, IsNewJournal}
 use Rattle.cut_commands.specs.Run.{GivesPlanFrom, IsReadAs, IsWritten, LeavesStudy}
 use Rattle.cut_commands.specs.inside.Migrate.{EndsFilling, Fills, IsOldRefused, WritesCount}
 use Rattle.cut_commands.proofs.NewStudies.{AreFirst, GoesOn, goes_all, goes_begun, goes_filled, goes_part, next_is}

@@ -1,8 +1,8 @@
 -- What is left of a disk on which a study is made, and slips are written one after another.
-use Rattle.std.proofs.Common.{◌≡◌, ◌∙◌, ◌++◌, ◌+◌, ◌<◌, inl, inr, ℕ, true, List, [], ◌∷◌, Option, Some, None, Ok, Err}
+use Rattle.std.proofs.Common.{◌≡◌, ◌∙◌, ◌++◌, inl, inr, ℕ, List, [], ◌∷◌, Option, Some, None, Ok, Err}
 use Rattle.std.proofs.Common.{Result}
-use Rattle.std.proofs.Common.{length, take, drop, get_or, refl, sym, ap, subst, arith, append-nil, append_assoc}
-use Rattle.std.proofs.lemmas.List.{take-append-drop, take_all, take_more}
+use Rattle.std.proofs.Common.{take, drop, refl, sym, ap, subst, arith, append-nil, append_assoc}
+use Rattle.std.proofs.lemmas.List.{take-append-drop, take_all}
 use Rattle.cut_plan.specs.Values.{Values}
 use Rattle.cut_disks.specs.State.{DiskState, Throughout, synced}
 use Rattle.cut_disks.specs.Log.{DiskLog, Goes, Knows, on}
@@ -12,10 +12,10 @@ use Rattle.cut_journal.specs.declared.store_fault.StoreFault.{StoreFault}
 use Rattle.cut_journal.specs.declared.store_fault.StoreFault.TheVariants as store
 use Rattle.cut_journal.specs.Adding.{Adds, StopsAt, doubtful_after, failures_after}
 use Rattle.cut_journal.specs.Journal.{AppendsEach, IsFileOf, JournalValue, ReadsAs, kept_slips}
-use Rattle.cut_journal.specs.Opening.{IsBegunFile, IsClaimed, IsNewStudy, is_unclaimed}
+use Rattle.cut_journal.specs.Opening.{IsBegunFile, IsClaimed, IsNewStudy}
 use Rattle.cut_journal.specs.Reading.{reading}
 use Rattle.cut_journal.proofs.Moments.{and_then, weaker}
-use Rattle.cut_commands.specs.NewStudy.{HasAll, HasPart, IsBegun, IsFilled, IsNewJournal, SaysAllOf, SaysFirstOf}
+use Rattle.cut_commands.specs.NewStudy.{HasAll, HasPart, IsBegun, IsFilled, IsNewJournal, SaysFirstOf}
 
 -- ---- first slips
 

@@ -1,28 +1,27 @@
 -- What is left of a disk on which joined slips are written one after another.
-use Rattle.std.proofs.Common.{◌≡◌, ◌∙◌, inl, inr, ℕ, true, List, [], ◌++◌, Option, Some, None, Result, Ok, Err}
-use Rattle.std.proofs.Common.{refl, sym, ap, subst, arith}
-use Rattle.std.specs.Prelude.{IfErr, IsSome, OnOk}
+use Rattle.std.proofs.Common.{◌≡◌, ◌++◌, inl, inr, ℕ, List, Option, Some, None, Result, Ok, Err, length, sym, ap, subst}
+use Rattle.std.specs.Prelude.{IfErr, IfOk, IsSome}
+use Rattle.cut_faults.specs.Failures.{one_more}
 use Rattle.cut_plan.specs.Values.{Values}
-use Rattle.cut_disks.specs.Log.{DiskLog, IsKnown, Knows, on}
-use Rattle.cut_disks.specs.State.{DiskState}
+use Rattle.cut_disks.specs.Log.{DiskLog, Goes, Knows}
 use Rattle.cut_ledger.specs.declared.slip.Slip.{Slip}
+use Rattle.cut_journal.specs.declared.fault.JournalFault.{JournalFault}
 use Rattle.cut_journal.specs.declared.fault.JournalFault.TheVariants as journal
 use Rattle.cut_journal.specs.declared.store_fault.StoreFault.{StoreFault}
 use Rattle.cut_journal.specs.declared.store_fault.StoreFault.TheVariants as store
 use Rattle.cut_journal.specs.Adding.{Adds, failures_after}
-use Rattle.cut_journal.specs.Journal.{IsFileOf, JournalValue}
-use Rattle.cut_journal.specs.Opening.{IsBegunFile, is_unclaimed}
-use Rattle.cut_journal.specs.Reading.{reading}
-use Rattle.cut_journal.proofs.Moments.{and_then}
+use Rattle.cut_journal.specs.Journal.{IsFileOf, JournalValue, fault_counts}
+use Rattle.cut_journal.specs.Opening.{IsClaimed, IsNotClaimed, MayNotClaim}
 use Rattle.cut_shares.specs.join.Joined.{joined}
 use Rattle.cut_shares.specs.join.Joining.{EndsJoin, StopsJoining}
 use Rattle.cut_commands.specs.declared.fault.CliFault.{CliFault}
 use Rattle.cut_commands.specs.declared.fault.CliFault.TheVariants.{Memory, Migrate}
-use Rattle.cut_commands.specs.Faults.{fault_of_store}
-use Rattle.cut_commands.specs.NewStudy.{HasPart, IsBegun, IsNewJournal, SaysAllOf, failing_calls}
-use Rattle.cut_commands.proofs.NewStudies.{AreFirst, GoesOn, first_added, goes_all, goes_part, none_next, since_made}
-use Rattle.cut_machines.specs.JoinTarget.{LeavesDisk}
-use Rattle.cut_machines.specs.inside.JoinTarget.{StopsFilling}
+use Rattle.cut_commands.specs.Faults.{fault_of_journal, fault_of_store}
+use Rattle.cut_commands.specs.NewStudy.{HasPart, IsBegun, IsNewJournal, writing_faults}
+use Rattle.cut_commands.proofs.NewStudies.{AreFirst, GoesOn, first_added, goes_all, goes_begun, goes_filled, goes_part}
+use Rattle.cut_commands.proofs.NewStudies.{none_next}
+use Rattle.cut_machines.specs.JoinTarget.{LeavesDisk, StopsWriting}
+use Rattle.cut_machines.specs.inside.JoinTarget.{FillsJoined}
 
 -- ---- a join to a new journal
 
@@ -41,61 +40,79 @@ module _ {D : Type 0} (log : D → DiskLog) (v : Values) (ss : List Slip) (old n
   first_joined (Err fault) added failed stops =
       first_added {T = ℕ} (Err fault) (joined v ss) old.doubtful added failed stops.1
 
-  -- why not all were
-  pub filling_stops : (fault : StoreFault) → EndsJoin log (Err fault) v ss old new → StopsFilling (fault_of_store fault)
-  filling_stops store.Memory (added, failed, ends) = tt
-  filling_stops store.OtherPlan (added, failed, ends) = absurd (ends.1.0 is.plan)
-  filling_stops store.Broken (added, failed, ends) =
-      absurd (not_some (subst (λ (o : Option Slip). IsSome o) is.whole ends.1.1.1))
-  filling_stops store.Disk (added, failed, ends) = tt
-  filling_stops fault (added, failed, ends) = absurd ends.1.1
-
-  -- how many calls of the disk failed
-  pub all_count : (n : ℕ) → EndsJoin log (Ok n) v ss old new → (log new.disk).failed ≡ (log old.disk).failed
-  all_count n (added, failed, ends) =
-      ends.0.disk.faults ∙ ap (λ (o : Option Slip). failures_after o (log old.disk).failed) ends.1.1.1
-
-  pub some_count : (fault : StoreFault) → EndsJoin log (Err fault) v ss old new
-      → (log new.disk).failed ≡ failing_calls (fault_of_store fault) (log old.disk).failed
-  some_count store.Memory (added, failed, ends) =
-      ends.0.disk.faults ∙ ap (λ (o : Option Slip). failures_after o (log old.disk).failed) ends.1.1
-  some_count store.Disk (added, failed, ends) =
-      ends.0.disk.faults ∙ ap (λ (o : Option Slip). failures_after o (log old.disk).failed) ends.1.1.2.1
-  some_count store.OtherPlan (added, failed, ends) = absurd (ends.1.0 is.plan)
-  some_count store.Broken (added, failed, ends) =
-      absurd (not_some (subst (λ (o : Option Slip). IsSome o) is.whole ends.1.1.1))
-  some_count fault (added, failed, ends) = absurd ends.1.1
-
   module _ (file : Knows (log new.disk) (IsFileOf new.plan new.count new.doubtful)) where
-    -- what is left of its disk
-    pub part_written : (result : Result ℕ StoreFault) → EndsJoin log result v ss old new → IsKnown (log old.disk)
-        → HasPart v (joined v ss) (on (log old.disk)) (on (log new.disk))
-    part_written result (added, failed, ends) known =
-        let first = first_joined result added failed ends.1 in
-        (goes_part log v old new is file (joined v ss) added failed first.0 first.1 ends.0).state known
+    -- all were
+    pub fills_all : (n : ℕ) → EndsJoin log (Ok n) v ss old new → FillsJoined (Ok n) v ss (log old.disk) (log new.disk)
+    fills_all n (added, failed, ends) = (
+      ends.1.2,
+      goes_all log v old new is file (joined v ss) (subst (λ (xs : List Slip). Adds log xs None old new) ends.1.1.0
+          (subst (λ (o : Option Slip). Adds log added o old new) ends.1.1.1 ends.0)),
+    )
 
-    pub all_written : (n : ℕ) → EndsJoin log (Ok n) v ss old new → IsKnown (log old.disk)
-        → SaysAllOf v (joined v ss) (on (log new.disk))
-    all_written n (added, failed, ends) known =
-        let whole = subst (λ (xs : List Slip). Adds log xs None old new) ends.1.1.0
-        (subst (λ (o : Option Slip). Adds log added o old new) ends.1.1.1 ends.0) in
-        ((goes_all log v old new is file (joined v ss) whole).state known).all
+    part : (result : Result ℕ StoreFault) (added : List Slip) (failed some : Option Slip) → failed ≡ some
+        → Adds log added failed old new → StopsJoining result v ss old added failed
+        → Goes (failures_after some) (HasPart v (joined v ss)) (log old.disk) (log new.disk)
+    part result added failed some same adds stops =
+        let first = first_joined result added failed stops in
+        subst (λ (o : Option Slip). Goes (failures_after o) (HasPart v (joined v ss)) (log old.disk) (log new.disk)) same
+        (goes_part log v old new is file (joined v ss) added failed first.0 first.1 adds)
+
+    -- or not
+    pub fills_some : (fault : StoreFault) → EndsJoin log (Err fault) v ss old new
+        → FillsJoined (Err (fault_of_store fault)) v ss (log old.disk) (log new.disk)
+    fills_some store.Memory (added, failed, ends) = part (Err store.Memory) added failed None ends.1.1 ends.0 ends.1
+    fills_some store.Disk (added, failed, ends) =
+        part (Err store.Disk) added failed (Some ends.1.1.0) ends.1.1.2.1 ends.0 ends.1
+    fills_some store.OtherPlan (added, failed, ends) = absurd (ends.1.0 is.plan)
+    fills_some store.Broken (added, failed, ends) =
+        absurd (not_some (subst (λ (o : Option Slip). IsSome o) is.whole ends.1.1.1))
+    fills_some fault (added, failed, ends) = absurd ends.1.1
 
 -- ---- the journal is made, and filled
 
-begun : (v : Values) (ss : List Slip) (old mid new : DiskState) → is_unclaimed old.bytes ≡ true
-    → reading v old.bytes ≡ Err journal.NoStudy → reading v mid.bytes ≡ Ok [] → IsBegunFile v old mid
-    → HasPart v (joined v ss) mid new → IsBegun v (joined v ss) old new
-begun v ss old mid new free none empty made part = search (arith, and_then, since_made)
+begun_or : (v : Values) (ss : List Slip) (count : ℕ → ℕ) (old new : DiskLog)
+    → Goes count (IsBegun v (joined v ss)) old new
+    → Goes count (LeavesDisk {T = ℕ} (Err Memory) v ss) old new
+begun_or v ss count old new goes =
+    record { known = goes.known; state = λ known. inr (goes.state known); faults = goes.faults }
 
-pub left_filled : {T : Type 0} (result : Result T CliFault) (v : Values) (ss : List Slip) (old mid new : DiskState)
-    → is_unclaimed old.bytes ≡ true → reading v old.bytes ≡ Err journal.NoStudy → reading v mid.bytes ≡ Ok []
-    → IsBegunFile v old mid → HasPart v (joined v ss) mid new → OnOk result (SaysAllOf v (joined v ss) new)
-    → IfErr result StopsFilling → LeavesDisk result v ss old new
-left_filled (Ok done) v ss old mid new free none empty made part all stops =
-    record { begun = begun v ss old mid new free none empty made part; all = all }
-left_filled (Err Memory) v ss old mid new free none empty made part all stops =
-    inr (begun v ss old mid new free none empty made part)
-left_filled (Err (Migrate store.Disk)) v ss old mid new free none empty made part all stops =
-    begun v ss old mid new free none empty made part
-left_filled (Err fault) v ss old mid new free none empty made part all stops = absurd stops
+pub left_filled : (result : Result ℕ CliFault) (v : Values) (ss : List Slip) (old mid new : DiskLog)
+    → Goes (λ n. n) (IsClaimed v) old mid → FillsJoined result v ss mid new
+    → Goes (writing_faults result) (LeavesDisk result v ss) old new
+left_filled (Ok n) v ss old mid new claimed fills = goes_filled v (joined v ss) old mid new claimed fills.1
+left_filled (Err Memory) v ss old mid new claimed fills =
+    begun_or v ss (λ n. n) old new (goes_begun (λ n. n) v (joined v ss) old mid new claimed fills)
+left_filled (Err (Migrate store.Disk)) v ss old mid new claimed fills =
+    goes_begun one_more v (joined v ss) old mid new claimed fills
+left_filled (Err fault) v ss old mid new claimed fills = absurd fills
+
+pub filled_count : (result : Result ℕ CliFault) (v : Values) (ss : List Slip) (mid new : DiskLog)
+    → FillsJoined result v ss mid new → IfOk result (λ n. n ≡ length (joined v ss))
+filled_count (Ok n) v ss mid new fills = fills.0
+filled_count (Err fault) v ss mid new fills = tt
+
+pub filled_stops : (result : Result ℕ CliFault) (v : Values) (ss : List Slip) (mid new : DiskLog)
+    → FillsJoined result v ss mid new → IfErr result StopsWriting
+filled_stops (Ok n) v ss mid new fills = tt
+filled_stops (Err Memory) v ss mid new fills = tt
+filled_stops (Err (Migrate store.Disk)) v ss mid new fills = tt
+filled_stops (Err fault) v ss mid new fills = absurd fills
+
+pub left_unclaimed : (fault : JournalFault) (v : Values) (ss : List Slip) (old new : DiskLog) → MayNotClaim fault
+    → Goes (fault_counts fault) (IsNotClaimed v fault) old new
+    → Goes (writing_faults {T = ℕ} (Err (fault_of_journal fault))) (LeavesDisk {T = ℕ} (Err (fault_of_journal fault)) v ss) old new
+left_unclaimed journal.Memory v ss old new may goes =
+    record { known = goes.known; state = λ known. inl (goes.state known); faults = goes.faults }
+left_unclaimed journal.Disk v ss old new may goes = goes
+left_unclaimed journal.Held v ss old new may goes = goes
+left_unclaimed journal.NoStudy v ss old new may goes = goes
+left_unclaimed fault v ss old new may goes = absurd may
+
+-- ---- the answer
+
+-- memory ran out for it once all slips were written
+pub left_unsaid : (v : Values) (ss : List Slip) (old new : DiskLog) (n : ℕ)
+    → Goes (writing_faults (Ok n)) (LeavesDisk (Ok n) v ss) old new
+    → Goes (writing_faults {T = ℕ} (Err Memory)) (LeavesDisk {T = ℕ} (Err Memory) v ss) old new
+left_unsaid v ss old new n goes =
+    record { known = goes.known; state = λ known. inr (goes.state known).begun; faults = goes.faults }

@@ -4,7 +4,6 @@ use Rattle.std.proofs.Common.{take, refl, sym, ap, subst, arith, inl, inr}
 use Rattle.std.specs.Bool.{⊤}
 use Rattle.std.specs.Prelude.{IfErr, IsSome}
 use Rattle.std.proofs.lemmas.List.{take_all}
-use Rattle.cut_faults.specs.Failures.{one_more}
 use Rattle.cut_plan.specs.Values.{Values}
 use Rattle.cut_disks.specs.Log.{DiskLog, Goes, IsKnown, is_known, on}
 use Rattle.cut_ledger.specs.declared.slip.Slip.{Slip}
@@ -26,6 +25,7 @@ use Rattle.cut_commands.proofs.RunLemmas.{ends_unread, leaves_answer, leaves_not
 use Rattle.cut_commands.proofs.Sources.{ends_read, ends_refused_text}
 use Rattle.cut_machines.specs.Share.{AddsTo, EndsKeeping, LeavesUnread, SayUpTo, SharesFrom, disk_faults_after, fault_of_share}
 use Rattle.cut_machines.specs.Share.{share_line, share_task}
+use Rattle.cut_machines.specs.inside.Share.{KeepsShare}
 
 not_some : IsSome {T = Slip} None → ⊥
 not_some some = cc some
@@ -98,28 +98,39 @@ module _ {D : Type 0} (log_of : D → DiskLog) where
     adds_at added failed some is adds =
         subst (λ (o : Option Slip). AddsTo v slips added o (log_of disk) (log_of new.disk)) is (adds_to added failed adds)
 
+    -- how many calls of the disk failed
+    counts : (added : List Slip) (failed some : Option Slip) → failed ≡ some → Adds log_of added failed log new
+        → (log_of new.disk).failed ≡ failures_after some (log_of disk).failed
+    counts added failed some is adds =
+        adds.disk.faults ∙ ap (λ (o : Option Slip). failures_after o (log_of log.disk).failed) is
+        ∙ ap (λ n. failures_after some n) opened.found.faults
+
     -- the run ended well
     pub keeps_all : (n : ℕ) (s : Share) → EndsShare log_of (Ok n) s v slips log new
-        → EndsKeeping (Ok n) s v (log_of disk) (log_of new.disk)
-    keeps_all n s (added, failed, ends) = (
-      ends.1.0,
-      record {
-        slips = slips;
-        added = added;
-        adds = adds_at added failed None ends.1.4 ends.0;
-        good = ends.1.1.good;
-        own = ends.1.2;
-        whole = ends.1.3;
-      },
-    )
+        → KeepsShare (Ok n) s v (log_of disk) (log_of new.disk)
+    keeps_all n s (added, failed, ends) = record {
+      ends = (
+        ends.1.0,
+        record {
+          slips = slips;
+          added = added;
+          adds = adds_at added failed None ends.1.4 ends.0;
+          good = ends.1.1.good;
+          own = ends.1.2;
+          whole = ends.1.3;
+        },
+      );
+      known = ends.0.disk.known ∙ opened.found.known;
+      faults = counts added failed None ends.1.4 ends.0;
+    }
 
     -- or with a fault
-    pub keeps_fault : (fault : StoreFault) (s : Share) → EndsShare log_of (Err fault) s v slips log new
+    keeps_some : (fault : StoreFault) (s : Share) → EndsShare log_of (Err fault) s v slips log new
         → EndsKeeping (Err (fault_of_share fault)) s v (log_of disk) (log_of new.disk)
-    keeps_fault store.OtherPlan s (added, failed, ends) = absurd (ends.1.0 opened.plan)
-    keeps_fault store.Broken s (added, failed, ends) =
+    keeps_some store.OtherPlan s (added, failed, ends) = absurd (ends.1.0 opened.plan)
+    keeps_some store.Broken s (added, failed, ends) =
         absurd (not_some (subst (λ (o : Option Slip). IsSome o) opened.whole ends.1.2))
-    keeps_fault (store.BadSlip number) s (added, failed, ends) = (
+    keeps_some (store.BadSlip number) s (added, failed, ends) = (
       slips,
       (
         subst (λ (ss : List Slip). AddsTo v slips ss None (log_of disk) (log_of new.disk)) ends.1.2.0
@@ -127,7 +138,7 @@ module _ {D : Type 0} (log_of : D → DiskLog) where
         ends.1.1,
       ),
     )
-    keeps_fault store.Memory s (added, failed, ends) = (
+    keeps_some store.Memory s (added, failed, ends) = (
       slips,
       added,
       (
@@ -136,44 +147,37 @@ module _ {D : Type 0} (log_of : D → DiskLog) where
         inl ends.1.1.0,
       ),
     )
-    keeps_fault store.WorkMemory s (added, failed, ends) = (
+    keeps_some store.WorkMemory s (added, failed, ends) = (
       slips,
       added,
       (adds_at added failed None ends.1.3 ends.0, ends.1.1, inr (ends.1.0.good, ends.1.2)),
     )
-    keeps_fault store.Disk s (added, failed, ends) = (
+    keeps_some store.Disk s (added, failed, ends) = (
       slips,
       added,
       ends.1.1.0,
       (adds_at added failed (Some ends.1.1.0) ends.1.1.1.1 ends.0, ends.1.0.good, ends.1.1.1.0),
     )
-    keeps_fault fault s (added, failed, ends) = absurd ends.1
+    keeps_some fault s (added, failed, ends) = absurd ends.1
 
-    -- how many calls of the disk failed
-    pub counts_all : (n : ℕ) (s : Share) → EndsShare log_of (Ok n) s v slips log new
-        → (log_of new.disk).failed ≡ (log_of disk).failed
-    counts_all n s (added, failed, ends) =
-        ends.0.disk.faults ∙ ap (λ (o : Option Slip). failures_after o (log_of log.disk).failed) ends.1.4
-        ∙ opened.found.faults
-
-    pub counts_fault : (fault : StoreFault) (s : Share) → EndsShare log_of (Err fault) s v slips log new
+    counts_some : (fault : StoreFault) (s : Share) → EndsShare log_of (Err fault) s v slips log new
         → (log_of new.disk).failed ≡ disk_faults_after {T = ℕ} (Err (fault_of_share fault)) (log_of disk).failed
-    counts_fault store.OtherPlan s (added, failed, ends) = absurd (ends.1.0 opened.plan)
-    counts_fault store.Broken s (added, failed, ends) =
+    counts_some store.OtherPlan s (added, failed, ends) = absurd (ends.1.0 opened.plan)
+    counts_some store.Broken s (added, failed, ends) =
         absurd (not_some (subst (λ (o : Option Slip). IsSome o) opened.whole ends.1.2))
-    counts_fault (store.BadSlip number) s (added, failed, ends) =
-        ends.0.disk.faults ∙ ap (λ (o : Option Slip). failures_after o (log_of log.disk).failed) ends.1.2.1
-        ∙ opened.found.faults
-    counts_fault store.Memory s (added, failed, ends) =
-        ends.0.disk.faults ∙ ap (λ (o : Option Slip). failures_after o (log_of log.disk).failed) ends.1.1.1
-        ∙ opened.found.faults
-    counts_fault store.WorkMemory s (added, failed, ends) =
-        ends.0.disk.faults ∙ ap (λ (o : Option Slip). failures_after o (log_of log.disk).failed) ends.1.3
-        ∙ opened.found.faults
-    counts_fault store.Disk s (added, failed, ends) =
-        ends.0.disk.faults ∙ ap (λ (o : Option Slip). failures_after o (log_of log.disk).failed) ends.1.1.1.1
-        ∙ ap one_more opened.found.faults
-    counts_fault fault s (added, failed, ends) = absurd ends.1
+    counts_some (store.BadSlip number) s (added, failed, ends) = counts added failed None ends.1.2.1 ends.0
+    counts_some store.Memory s (added, failed, ends) = counts added failed None ends.1.1.1 ends.0
+    counts_some store.WorkMemory s (added, failed, ends) = counts added failed None ends.1.3 ends.0
+    counts_some store.Disk s (added, failed, ends) = counts added failed (Some ends.1.1.0) ends.1.1.1.1 ends.0
+    counts_some fault s (added, failed, ends) = absurd ends.1
+
+    pub keeps_fault : (fault : StoreFault) (s : Share) → EndsShare log_of (Err fault) s v slips log new
+        → KeepsShare (Err (fault_of_share fault)) s v (log_of disk) (log_of new.disk)
+    keeps_fault fault s ends = record {
+      ends = keeps_some fault s ends;
+      known = ends.2.0.disk.known ∙ opened.found.known;
+      faults = counts_some fault s ends;
+    }
 
 -- ---- what is written
 

@@ -5,7 +5,7 @@ use Rattle.std.specs.Borrow.{Bor}
 use Rattle.std.specs.Fmt.{decimal}
 use Rattle.cut_plan.specs.Cells.{trial_count}
 use Rattle.cut_plan.specs.Values.{Values}
-use Rattle.cut_disks.specs.Log.{DiskLog, IsKnown, is_known, on}
+use Rattle.cut_disks.specs.Log.{DiskLog, Goes, is_known}
 use Rattle.cut_files.specs.Place.{Place, MayNotOpen, OpensAs, StaysElsewhere, closed, opened}
 use Rattle.cut_files.specs.declared.files.Mode.TheVariants.{Create}
 use Rattle.cut_files.specs.declared.files.OpenFault.{OpenFault}
@@ -47,8 +47,7 @@ pub record HasWritten (result : Result ⊤ CliFault) (files : JoinFiles) (v : Va
   pub held : HoldAll files.found files.old v slips
   pub read : AreRead files.found files.left files.old
   pub good : AreGood v slips
-  pub written : IsKnown files.disk → LeavesDisk result v slips (on files.disk) (on files.back)
-  pub faults : files.back.failed ≡ writing_faults result files.disk.failed
+  pub written : Goes (writing_faults result) (LeavesDisk result v slips) files.disk files.back
 
 -- all were written, and these bytes say how many
 abbrev pub JoinWrites : JoinFiles → Values → List ℕ → Type 0

@@ -2,3 +2,4 @@
 pub mod JoinCommand
 pub mod JoinSources
 pub mod JoinTarget
+pub mod Share

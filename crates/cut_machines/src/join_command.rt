@@ -1,7 +1,7 @@
 //! The command that joins checkpoints.
 
 ghost use Rattle.std.specs.Prelude.{◌≡◌, IfErr, IfOk, None, length, map, string_bytes};
-ghost use Rattle.cut_disks.specs.Log.{IsKnown, is_known, on};
+ghost use Rattle.cut_disks.specs.Log.{Goes, is_known};
 ghost use Rattle.cut_ledger.specs.Slips.{AreGood};
 ghost use Rattle.cut_shares.specs.join.Joined.{joined};
 ghost use Rattle.cut_shares.specs.join.Laws.{JoinedAreTrue, JoinedGiveThePlansTable};
@@ -192,10 +192,8 @@ fn join_slips<N: Disk + Drop>(
     ensures text { IfOk result.ended
         (λ text. string_bytes text ≡ joined_text accepted.now.plan accepted.now.slips) }
     ensures stops { IfErr result.ended StopsWriting }
-    ensures left { IsKnown (N.log disk) → LeavesDisk result.ended accepted.now.plan accepted.now.slips
-        (on (N.log disk)) (on (N.log result.disk)) }
-    ensures known { is_known (N.log result.disk) ≡ is_known (N.log disk) }
-    ensures faults { (N.log result.disk).failed ≡ writing_faults result.ended (N.log disk).failed }
+    ensures left { Goes (writing_faults result.ended)
+        (LeavesDisk result.ended accepted.now.plan accepted.now.slips) (N.log disk) (N.log result.disk) }
     ensures none { result.refused ≡ None }
 {
     let Written { disk, count } = write_joined(alloc, accepted, disk);

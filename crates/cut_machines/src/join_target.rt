@@ -1,11 +1,11 @@
 //! The new checkpoint of a join.
 
-ghost use Rattle.std.specs.Prelude.{◌≡◌, ◌↔◌, IfErr, IfOk, OnOk, length};
-ghost use Rattle.cut_disks.specs.Log.{IsKnown, is_known, on};
+ghost use Rattle.std.specs.Prelude.{◌≡◌, IfErr, IfOk, length};
+ghost use Rattle.cut_disks.specs.Log.{Goes};
 ghost use Rattle.cut_shares.specs.join.Joined.{joined};
-ghost use Rattle.cut_commands.specs.NewStudy.{HasPart, IsNewJournal, SaysAllOf, writing_faults};
+ghost use Rattle.cut_commands.specs.NewStudy.{IsNewJournal, writing_faults};
 ghost use Rattle.cut_machines.specs.JoinTarget.{LeavesDisk, StopsWriting};
-ghost use Rattle.cut_machines.specs.inside.JoinTarget.{StopsFilling};
+ghost use Rattle.cut_machines.specs.inside.JoinTarget.{FillsJoined};
 
 use cut_commands::CliFault;
 use cut_disks::Disk;
@@ -26,12 +26,10 @@ pub(crate) fn write_joined<N: Disk + Drop>(
     accepted: &AcceptedSlips<'_>,
     disk: N,
 ) -> Written<N>
-    ensures left { IsKnown (N.log disk) →
-        LeavesDisk result.count accepted.now.plan accepted.now.slips (on (N.log disk)) (on (N.log result.disk)) }
+    ensures left { Goes (writing_faults result.count)
+        (LeavesDisk result.count accepted.now.plan accepted.now.slips) (N.log disk) (N.log result.disk) }
     ensures count { IfOk result.count (λ n. n ≡ length (joined accepted.now.plan accepted.now.slips)) }
     ensures stops { IfErr result.count StopsWriting }
-    ensures known { is_known (N.log result.disk) ≡ is_known (N.log disk) }
-    ensures faults { (N.log result.disk).failed ≡ writing_faults result.count (N.log disk).failed }
 {
     match Journal::claim(alloc, disk, accepted.plan()) {
         Ok(journal) => fill_journal(alloc, accepted, journal),
@@ -49,16 +47,7 @@ fn fill_journal<N: Disk>(
     journal: Journal<N>,
 ) -> Written<N>
     requires { IsNewJournal accepted.now.plan journal }
-    ensures part { IsKnown (N.log journal.disk) →
-        HasPart accepted.now.plan (joined accepted.now.plan accepted.now.slips) (on (N.log journal.disk))
-        (on (N.log result.disk)) }
-    ensures all { IsKnown (N.log journal.disk) →
-        OnOk result.count (SaysAllOf accepted.now.plan (joined accepted.now.plan accepted.now.slips)
-        (on (N.log result.disk))) }
-    ensures count { IfOk result.count (λ n. n ≡ length (joined accepted.now.plan accepted.now.slips)) }
-    ensures stops { IfErr result.count StopsFilling }
-    ensures known { is_known (N.log result.disk) ≡ is_known (N.log journal.disk) }
-    ensures faults { (N.log result.disk).failed ≡ writing_faults result.count (N.log journal.disk).failed }
+    ensures { FillsJoined result.count accepted.now.plan accepted.now.slips (N.log journal.disk) (N.log result.disk) }
 {
     let mut journal = journal;
     let count = match join(alloc, accepted, &mut journal) {

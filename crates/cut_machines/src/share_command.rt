@@ -1,9 +1,8 @@
 ghost use Rattle.std.specs.Prelude.{◌≡◌, ◌≤◌};
-ghost use Rattle.cut_disks.specs.Log.{is_known};
 ghost use Rattle.cut_files.specs.Place.{StaysElsewhere, while_open};
 ghost use Rattle.cut_commands.specs.Run.{plan_place, source_place};
-ghost use Rattle.cut_machines.specs.Share.{EndsKeeping, EndsShare, SharesFrom};
-ghost use Rattle.cut_machines.specs.Share.{disk_faults_after, fault_of_share};
+ghost use Rattle.cut_machines.specs.Share.{EndsShare, SharesFrom, fault_of_share};
+ghost use Rattle.cut_machines.specs.inside.Share.{KeepsShare};
 
 use crate::share_answer::share_line;
 use cut_commands::{CliFault, PlanSource, write_answer};
@@ -160,9 +159,7 @@ where
     D: Disk,
     G: Gate + Sync,
     R: Threads + Wait + Sync,
-    ensures ends { EndsKeeping result.0 work.entry.share plan.now (D.log disk) (D.log result.1) }
-    ensures known { is_known (D.log result.1) ≡ is_known (D.log disk) }
-    ensures faults { (D.log result.1).failed ≡ disk_faults_after result.0 (D.log disk).failed }
+    ensures { KeepsShare result.0 work.entry.share plan.now (D.log disk) (D.log result.1) }
 {
     let (mut journal, slips) = match Journal::open(alloc, disk, plan) {
         Ok(opened) => opened,
