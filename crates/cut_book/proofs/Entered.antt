@@ -19,7 +19,8 @@ use Rattle.cut_book.specs.declared.call.Answer.TheVariants.{Accepted, DiskFails}
 use Rattle.cut_book.specs.declared.call.Call.{Call}
 use Rattle.cut_book.specs.History.{Opening, HistoryValue, IsAnswer, IsStep, accepted_slip, event_of}
 use Rattle.cut_book.specs.Book.{GivesAnswer, FollowsState, JournalAfter, failures_of}
-use Rattle.cut_book.specs.inside.Book.{IsBook, doubtful_in}
+use Rattle.cut_book.specs.Kept.{doubtful_in}
+use Rattle.cut_book.specs.inside.Book.{IsBook}
 use Rattle.cut_book.specs.Book.{hand_in_of}
 use Rattle.cut_book.specs.inside.Book.{book_value_in, state_in}
 use Rattle.cut_book.proofs.Legal.{Noted, state_next, state_same, stepped}

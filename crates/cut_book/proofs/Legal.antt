@@ -14,8 +14,9 @@ use Rattle.cut_journal.specs.Laws.{IsJournalOf}
 use Rattle.cut_book.specs.declared.call.Call.{Call}
 use Rattle.cut_book.specs.History.{Opening, HistoryValue, opened_by, IsStep, LeadsTo, IsLegalHistory, accepted_slip}
 use Rattle.cut_book.specs.History.{accepted_slips}
-use Rattle.cut_book.specs.Book.{failures_of, FollowsState}
-use Rattle.cut_book.specs.inside.Book.{kept_in, doubtful_in, state_in, failed_since, IsBook}
+use Rattle.cut_book.specs.Book.{failures_of, failed_since, FollowsState}
+use Rattle.cut_book.specs.Kept.{doubtful_in}
+use Rattle.cut_book.specs.inside.Book.{kept_in, state_in, IsBook}
 
 pub leads_on : (s t u : StudyState) (calls : List Call) (call : Call) → LeadsTo s calls t → IsStep t call u
     → LeadsTo s (calls ++ call ∷ []) u

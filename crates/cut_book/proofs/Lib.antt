@@ -7,3 +7,4 @@ pub mod OpenedBooks
 pub mod Sums
 pub mod Merged
 pub mod Trusted
+pub mod OwnSlips

@@ -14,7 +14,8 @@ use Rattle.cut_journal.specs.Reading.{reading}
 use Rattle.cut_journal.specs.Laws.{OpeningsFollow}
 use Rattle.cut_book.specs.History.{HistoryValue}
 use Rattle.cut_book.specs.Book.{FollowsState}
-use Rattle.cut_book.specs.inside.Book.{doubtful_in, kept_in, state_in}
+use Rattle.cut_book.specs.Kept.{doubtful_in}
+use Rattle.cut_book.specs.inside.Book.{kept_in, state_in}
 use Rattle.cut_book.proofs.Legal.{none_kept}
 
 -- a journal as it was made or opened again: of that plan, with these slips, none doubtful

@@ -1,7 +1,7 @@
 -- A book as contracts see it: a study with its journal and its history, and what its calls leave.
 use Rattle.std.specs.Prelude.{◌≡◌, ◌↔◌, ◌++◌, ◌+◌, ℕ, true, false, ⊤, List, [], ◌∷◌}
 use Rattle.std.specs.Prelude.{Option, Some, None, is_some, if◌then◌else◌, Result, Ok}
-use Rattle.std.specs.Prelude.{Err}
+use Rattle.std.specs.Prelude.{Err, Bool}
 use Rattle.cut_faults.specs.Failures.{one_more}
 use Rattle.cut_plan.specs.Values.{Values}
 use Rattle.cut_outcome.specs.Computed.{Computed}
@@ -47,6 +47,10 @@ opening_of p = record {
 abbrev pub failures_of : {D : Type 0} → (D → DiskLog) → Option (JournalValue D) → ℕ
 failures_of log_of None = 0
 failures_of log_of (Some log) = (log_of log.disk).failed
+
+-- how many have failed, where this many had at the opening: one more if the study is broken
+abbrev pub failed_since : Bool → ℕ → ℕ
+failed_since broken failed = if broken then one_more failed else failed
 
 -- why a book was not opened: memory ran out, which says nothing of the slips, or there is a first bad slip
 abbrev pub IsOpeningFault : Values → List Slip → BookFault → Type 0

@@ -25,8 +25,9 @@ ghost use Rattle.cut_book.specs.declared.call.Call.TheVariants as call;
 ghost use Rattle.cut_book.specs.History.{opened_by, LeadsTo};
 ghost use Rattle.cut_book.specs.Book.{BookValue, opening_of, failures_of, answer_of, HandsIn, IsHandInFault, AsksRow};
 ghost use Rattle.cut_book.specs.Book.{IsOpeningFault, faults_after, FollowsState, LeavesResumed};
+ghost use Rattle.cut_book.specs.Kept.{disk_start_of, IsLeftWith};
 ghost use Rattle.cut_book.specs.inside.Book.{refusal_in};
-ghost use Rattle.cut_book.specs.Book.{IsAsKnown};
+ghost use Rattle.cut_book.specs.Book.{IsAsKnown, failed_since};
 
 use crate::append::append;
 use crate::{Answer, BookFault, Call, History};
@@ -76,7 +77,7 @@ impl<D: Disk> Model for Book<D> {
 impl<D: Disk> Book<D> {
     /// Opens a study over slips, with its journal if it has one, and divides the other trials into pieces of this size.
     /// It is refused by the number of the first slip that is not a piece of the plan, has a trial of an earlier one, or
-    /// whose totals are not possible ones. A journal is given up then.
+    /// whose totals are not possible ones. A journal is given up then: [`Book::over`] hands it back.
     ///
     /// The journal is as `create` or `reopen` answered it for that plan, and the slips are those that it answered.
     pub fn new(
@@ -99,25 +100,47 @@ impl<D: Disk> Book<D> {
         ensures good { OnOk result (AreGood plan slips.now) }
         ensures err { IfErr result (λ e. IsOpeningFault plan slips.now e) }
     {
+        match Book::over(alloc, plan, journal, slips, piece_size) {
+            Ok(book) => Ok(book),
+            Err((fault, _journal)) => Err(fault),
+        }
+    }
+
+    /// Opens a study as [`Book::new`] does. If it is refused, the journal comes back as it was.
+    pub fn over(
+        alloc: Global,
+        plan: Plan,
+        journal: Option<Journal<D>>,
+        slips: &[Slip],
+        piece_size: u32,
+    ) -> Result<Book<D>, (BookFault, Option<Journal<D>>)>
+        requires size { 1 ≤ piece_size }
+        requires journal { IfSome journal (λ log.
+            (log.plan ≡ plan) × (log.count ≡ length slips.now) × (log.doubtful ≡ None)) }
+        requires read { IfSome journal (λ log. IsKnown (D.log log.disk) → reading plan (on (D.log log.disk)).bytes ≡ Ok slips.now) }
+        ensures state { IfOk result (λ b. b.state ≡ opened plan (is_some journal) slips.now piece_size) }
+        ensures begun { IfOk result (λ b.
+            (b.journal ≡ journal) × (b.size ≡ piece_size) × (b.calls ≡ [])) }
+        ensures failed { IfOk result (λ b. b.failed ≡ failures_of D.log journal) }
+        ensures good { OnOk result (AreGood plan slips.now) }
+        ensures err { IfErr result (λ e. IsOpeningFault plan slips.now e.0 × (e.1 ≡ journal)) }
+    {
         laws::journals_begin_with_their_runs();
         let failed = failures(&journal);
-        let (ledger, division, lost, history) = begin(
-            alloc,
-            plan,
-            journal.is_some(),
-            slips,
-            piece_size,
-        )?;
-        Ok(Book {
-            ledger,
-            journal,
-            losable: division.len(),
-            division,
-            lost,
-            history,
-            broken: false,
-            failed,
-        })
+        let has_journal = journal.is_some();
+        match begin(alloc, plan, has_journal, slips, piece_size) {
+            Ok((ledger, division, lost, history)) => Ok(Book {
+                ledger,
+                journal,
+                losable: division.len(),
+                division,
+                lost,
+                history,
+                broken: false,
+                failed,
+            }),
+            Err(fault) => Err((fault, journal)),
+        }
     }
 
     /// Takes a result: keeps its slip, if there is a journal, and enters it into the ledger.
@@ -136,6 +159,7 @@ impl<D: Disk> Book<D> {
         ensures faults { failures_of D.log self.new.journal
             ≡ faults_after (answer_of result self.old.state) (failures_of D.log self.old.journal) }
         ensures known { IsAsKnown D.log self.old.journal self.new.journal }
+        ensures start { disk_start_of D.log self.new ≡ disk_start_of D.log self.old }
         ensures moments { LeavesResumed D.log self.old.journal self.new.journal
             (after self.old.state (event.HandInDiskFails offered.now)) }
     {
@@ -250,7 +274,7 @@ impl<D: Disk> Book<D> {
         ensures images { IfSome self.now.journal (λ log. IsKnown (D.log log.disk) → (image : List ℕ) → IsImage (on (D.log log.disk)).stable image
             → IsResumed log.plan self.now.state image) }
         ensures faults { failures_of D.log self.now.journal
-            ≡ (if self.now.state.broken then one_more self.now.failed else self.now.failed) }
+            ≡ failed_since self.now.state.broken self.now.failed }
     {
         self.leaves_resumed();
         self.journal.as_ref()
@@ -265,12 +289,13 @@ impl<D: Disk> Book<D> {
         &self.history
     }
 
-    /// Gives the history back, which leads to the last state, and the journal.
+    /// Gives the history back, which leads to the last state, and the journal, which is as the study leaves it.
     pub fn into_parts(self) -> (History, Option<Journal<D>>)
         ensures opening { result.0.opening ≡ opening_of self }
         ensures calls { result.0.calls ≡ self.calls }
         ensures legal { LeadsTo (opened_by (opening_of self)) self.calls self.state }
         ensures journal { result.1 ≡ self.journal }
+        ensures left { IsLeftWith D.log (opening_of self) (disk_start_of D.log self) self.state result.1 }
     {
         (self.history, self.journal)
     }

@@ -13,6 +13,7 @@ mod book_opening;
 mod call;
 mod fault;
 mod history;
+pub mod laws;
 mod opened;
 mod shelf;
 mod submit_fault;

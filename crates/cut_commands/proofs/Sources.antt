@@ -11,11 +11,12 @@ use Rattle.cut_plan.specs.Refusals.{IsFaultOfText}
 use Rattle.cut_plan.specs.declared.refusal.PlanFault.{PlanFault}
 use Rattle.cut_plan.specs.declared.refusal.PlanFault.TheVariants as plan
 use Rattle.cut_plan.specs.declared.refusal.Refusal.TheVariants.{NotJson, PlanTooLong}
-use Rattle.cut_files.specs.Place.{Place}
+use Rattle.cut_disks.specs.Log.{DiskLog}
+use Rattle.cut_files.specs.Place.{Place, Unknown, Absent, Refused, Open, Holds, closed, opened}
 use Rattle.cut_wires.specs.Log.{WireLog, wrote}
 use Rattle.cut_commands.specs.Faults.{fault_of_plan}
 use Rattle.cut_commands.specs.Run.{CommandAnswers, EndsCommandFrom, EndsFrom, EndsOnText, EndsRead, GivesPlanFrom}
-use Rattle.cut_commands.specs.Run.{GivesTextFrom, IsPlanText, IsReadAs, LeavesStudy}
+use Rattle.cut_commands.specs.Run.{GivesTextFrom, HasUnread, IsPlanText, IsReadAs, LeavesStudy}
 use Rattle.cut_commands.specs.Run.{failing, failed_by, plan_place, read_on}
 use Rattle.cut_commands.specs.Task.{Task}
 use Rattle.cut_commands.specs.declared.fault.CliFault.{CliFault}
@@ -29,6 +30,14 @@ pub same_place : (one other : List ℕ → Place) (source : Option (Bor (List �
     → ((path : List ℕ) → one path ≡ other path) → plan_place one source ≡ plan_place other source
 same_place one other None same = refl
 same_place one other (Some path) same = ap (λ (place : Place). Some place) (same path.now)
+
+-- a file that was opened is shut as if it had not been
+pub closed_opened : (disk : DiskLog) (place : Place) → closed disk (opened place) ≡ closed disk place
+closed_opened disk Unknown = refl
+closed_opened disk Absent = refl
+closed_opened disk Refused = refl
+closed_opened disk Open = refl
+closed_opened disk (Holds log) = refl
 
 -- ---- a text
 
@@ -149,16 +158,26 @@ ends_unread_from task (Some place) fault old new given = elim given [
 ]
 
 -- ends for one task as for another
-pub ends_as_from : (a b : Task) (source : Option Place) (old new : WireLog) (r : Result ⊤ CliFault) → Weakens a b
-    → EndsCommandFrom a source old new r → EndsCommandFrom b source old new r
-ends_as_from a b None old new r weak ends = ends_as a b old new r weak ends
-ends_as_from a b (Some place) old new r weak ends = elim ends [
-  | inl read ↦ inl (record {
-    text = read.text;
-    is = read.is;
-    written = read.written;
-    log = read.log;
-    answers = answers_as a b read.text weak (nat_lt (length read.text) 65537) r read.written read.answers;
-  })
-  | inr unread ↦ inr unread
-]
+pub ends_read_as : (a b : Task) (source : Option Place) (old new : WireLog) (r : Result ⊤ CliFault) → Weakens a b
+    → EndsRead (CommandAnswers a) source old new r → EndsRead (CommandAnswers b) source old new r
+ends_read_as a b None old new r weak ends = ends_as a b old new r weak ends
+ends_read_as a b (Some place) old new r weak ends = record {
+  text = ends.text;
+  is = ends.is;
+  written = ends.written;
+  log = ends.log;
+  answers = answers_as a b ends.text weak (nat_lt (length ends.text) 65537) r ends.written ends.answers;
+}
+
+-- a command ends as one that read its plan
+pub ends_from_read : (answering : List ℕ → Bool → Result ⊤ CliFault → List ℕ → Type 0) (source : Option Place)
+    (old new : WireLog) (r : Result ⊤ CliFault) → EndsRead answering source old new r
+    → EndsFrom answering source old new r
+ends_from_read answering None old new r ends = ends
+ends_from_read answering (Some place) old new r ends = inl ends
+
+-- or as one that did not
+pub ends_from_unread : (answering : List ℕ → Bool → Result ⊤ CliFault → List ℕ → Type 0) (source : Option Place)
+    (old new : WireLog) (r : Result ⊤ CliFault) → HasUnread source r old new → EndsFrom answering source old new r
+ends_from_unread answering None old new r unread = absurd unread
+ends_from_unread answering (Some place) old new r unread = inr unread

@@ -31,5 +31,5 @@ pub use fault::{CliFault, FaultText};
 pub use input::{PlanSource, read_plan};
 pub use migrate_command::{MigratedFiles, migrate, migrate_io};
 pub use output::write_answer;
-pub use run_command::{KeptWork, Study, Work, run, run_from, run_io};
+pub use run_command::{EndedStudy, KeptWork, Study, Work, run, run_from, run_io};
 pub use status_command::status;

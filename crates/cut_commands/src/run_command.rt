@@ -1,7 +1,8 @@
-ghost use Rattle.std.specs.Prelude.{◌≡◌, ◌≤◌, option_map};
+ghost use Rattle.std.specs.Prelude.{◌≡◌, ◌≤◌, is_some, option_map};
 ghost use Rattle.cut_files.specs.Place.{StaysElsewhere, while_open};
-ghost use Rattle.cut_commands.specs.Run.{EndsCommandFrom, plan_place, source_place};
-ghost use Rattle.cut_commands.specs.Study.{EndsStudy, RunsFrom, RunsOn, study_task};
+ghost use Rattle.cut_commands.specs.Run.{plan_place, source_place};
+ghost use Rattle.cut_commands.specs.Study.{EndsStudy, RunsFrom, RunsOn};
+ghost use Rattle.cut_commands.specs.inside.Study.{RunsPlan};
 
 use crate::CliFault;
 use crate::checkpoint::open_checkpoint;
@@ -9,7 +10,8 @@ use crate::input::PlanSource;
 use cut_disks::Disk;
 use cut_files::{Files, MemoryFiles, Mode};
 use cut_outcome::Gate;
-use cut_pool::StudyRun;
+use cut_plan::Plan;
+use cut_pool::{EndedRun, StudyRun};
 use cut_wires::Wire;
 use std::alloc::Global;
 use std::sync::Wait;
@@ -32,13 +34,14 @@ pub struct Work<'a, G> {
 /// before it are done.
 ///
 /// With a disk the study is kept there: it goes on from the slips that the disk holds, or begins where it holds none,
-/// and each piece is kept once it is done.
+/// and each piece is kept once it is done. The disk is given up: a caller that wants it back lends it, or calls
+/// [`run_from`].
 ///
 /// For every plan, piece size, number of workers, gate, checkpoint and wire, what the wire took is a prefix of the
 /// plan's table, trial by trial as it is defined: all of it at `Ok`, and exactly as many bytes as are reported if a
 /// write failed. That is the part `table` of the contract, without a disk or over one that is known to hold no study,
-/// or true slips, as those are that this program writes. Over any other disk `ends` says the same of the table over the
-/// slips that were found there.
+/// or true slips, as those are that this program writes. Over any other disk `command` says the same of the table over
+/// the slips that were found there.
 ///
 /// At most 65,537 bytes are read. Nothing is written at a fault of the reading, the plan, the opening of the checkpoint
 /// or its slips; some first bytes may be written where the checkpoint, memory or the audit stop a study that has begun.
@@ -59,7 +62,8 @@ where
     ensures { RunsOn (option_map D.log disk) (W.log wire.old) (W.log wire.new) result }
 {
     let source = PlanSource::<MemoryFiles>::Input;
-    run_from(rt, alloc, wire, Study::new(work, disk, source))
+    let EndedStudy { ended, .. } = run_from(rt, alloc, wire, Study::new(work, disk, source));
+    ended
 }
 
 /// A study: how it is worked on, the disk that keeps it, if there is one, and where its plan is read from.
@@ -82,55 +86,102 @@ impl<'a, G, D, F> Study<'a, G, D, F> {
     }
 }
 
-/// Runs a study as `run_io` does, whose plan is read from a wire or a file.
+/// How a study ended, with the disk that kept it.
+#[derive(Drop)]
+pub struct EndedStudy<D> {
+    /// The disk, if there is one, with what was added to it.
+    pub disk: Option<D>,
+    /// All of the table was written, or why not.
+    pub ended: Result<(), CliFault>,
+}
+
+/// Runs a study as `run_io` does, whose plan is read from a wire or a file, and gives its disk back. Of the table and of
+/// what is on the disk then the contract speaks over the same slips.
 pub fn run_from<F, W, D, G, R>(
     rt: &R,
     alloc: Global,
     wire: &mut W,
     study: Study<'_, G, D, F>,
-) -> Result<(), CliFault>
+) -> EndedStudy<D>
 where
     F: Files,
     W: Wire,
     D: Disk + Drop + Send,
     G: Gate + Sync,
     R: Threads + Wait + Sync,
-    ensures { RunsFrom (option_map D.log study.entry.disk) (source_place F.log study.entry.source)
-        (W.log wire.old) (W.log wire.new) result }
+    ensures runs { RunsFrom (option_map D.log study.entry.disk) (option_map D.log result.disk)
+        (source_place F.log study.entry.source) (W.log wire.old) (W.log wire.new) result.ended }
+    ensures disk { is_some result.disk ≡ is_some study.entry.disk }
 {
     cut_plan::laws::accepted_texts_give_plans();
     cut_ledger::laws::true_slips_give_the_table();
-    run_over_slips(rt, alloc, wire, study)
+    let Study { work, disk, source } = study;
+    match source.read_plan(alloc, wire) {
+        Ok(plan) => {
+            let planned = PlannedStudy {
+                plan: &plan,
+                work,
+                disk,
+            };
+            run_plan(rt, alloc, wire, planned)
+        }
+        Err(fault) => EndedStudy {
+            disk,
+            ended: Err(fault),
+        },
+    }
 }
 
-/// The same, by the slips that the disk holds, whichever they are.
-fn run_over_slips<F, W, D, G, R>(
+/// A study whose plan was read.
+#[derive(Drop)]
+struct PlannedStudy<'a, 'b, G, D> {
+    plan: &'a Plan,
+    work: Work<'b, G>,
+    disk: Option<D>,
+}
+
+/// Runs a study whose plan was read: opens the checkpoint, and writes the table.
+fn run_plan<W, D, G, R>(
     rt: &R,
     alloc: Global,
     wire: &mut W,
-    study: Study<'_, G, D, F>,
-) -> Result<(), CliFault>
+    study: PlannedStudy<'_, '_, G, D>,
+) -> EndedStudy<D>
 where
-    F: Files,
     W: Wire,
     D: Disk + Drop + Send,
     G: Gate + Sync,
     R: Threads + Wait + Sync,
-    ensures { EndsCommandFrom (study_task (option_map D.log study.entry.disk)) (source_place F.log study.entry.source)
-        (W.log wire.old) (W.log wire.new) result }
+    ensures runs { RunsPlan study.entry.plan.now (option_map D.log study.entry.disk) (option_map D.log result.disk)
+        (W.log wire.old) (W.log wire.new) result.ended }
+    ensures disk { is_some result.disk ≡ is_some study.entry.disk }
 {
-    let Study { work, disk, source } = study;
-    let plan = source.read_plan(alloc, wire)?;
-    let kept = open_checkpoint(alloc, disk, &plan)?;
+    let PlannedStudy { plan, work, disk } = study;
+    let kept = match open_checkpoint(alloc, disk, plan) {
+        Ok(kept) => kept,
+        Err((fault, disk)) => {
+            return EndedStudy {
+                disk,
+                ended: Err(fault),
+            };
+        }
+    };
     let run = StudyRun {
-        plan: &plan,
+        plan,
         kept,
         piece_size: work.piece_size,
         workers: work.workers,
     };
-    match run.run(rt, alloc, wire, work.gate) {
-        Ok(_done) => Ok(()),
-        Err(fault) => Err(CliFault::from(fault)),
+    let EndedRun { ended, disk } = run.run(rt, alloc, wire, work.gate);
+    match ended {
+        Ok(_done) => EndedStudy {
+            disk,
+            ended: Ok(()),
+        },
+        Err(fault) => EndedStudy {
+            disk,
+            ended: Err(CliFault::from(fault)),
+        },
     }
 }
 
@@ -147,8 +198,10 @@ pub struct KeptWork<'a, G> {
 
 /// Runs a study as `run_io` does, which is kept in the file at a path.
 ///
-/// The file is opened before anything is read, and made if there is none. The file of a plan is read after that, where
-/// the wire would be read. Where what stands at the path is known, the contract says of which slips the table is.
+/// The file is opened before anything is read, made if there is none, and shut at the end, however the study ended. The
+/// file of a plan is read after it was opened, where the wire would be read. Where what stands at the path is known, the
+/// contract says of which slips the table is, and what stands there afterwards: these and, in order, true slips of what
+/// was run, all that were lacking where the answer is `Ok`.
 pub fn run<F, W, G, R>(
     files: &mut F,
     rt: &R,
@@ -166,7 +219,12 @@ where
         (W.log wire.old) (W.log wire.new) result }
     ensures elsewhere { StaysElsewhere kept.entry.file.now (F.log files.old) (F.log files.new) }
 {
-    let disk = files.open(kept.file, Mode::Create)?;
+    let path = kept.file;
+    let disk = files.open(path, Mode::Create)?;
     let source = PlanSource::of(&*files, kept.plan);
-    run_from(rt, alloc, wire, Study::new(kept.work, Some(disk), source))
+    let study = Study::new(kept.work, Some(disk), source);
+    let EndedStudy { disk, ended } = run_from(rt, alloc, wire, study);
+    let Some(disk) = disk else { unreachable!() };
+    files.close(path, disk);
+    ended
 }

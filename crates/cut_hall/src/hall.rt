@@ -1,4 +1,4 @@
-ghost use Rattle.std.specs.Prelude.{true, false, Some, None, ◌≡◌, ◌+◌, ◌<◌, ◌≤◌, length, vec_len, All, IfOk, IfSome, OnErr};
+ghost use Rattle.std.specs.Prelude.{true, false, Some, None, ◌≡◌, ◌+◌, ◌<◌, ◌≤◌, length, vec_capacity, vec_len, All, IfOk, IfSome, OnErr};
 ghost use Rattle.std.specs.Prelude.{IfErr};
 ghost use Rattle.cut_ledger.specs.declared.lines.line.TheConstants.{LONGEST_LINE};
 ghost use Rattle.cut_plan.specs.Cells.{cells_of};
@@ -6,7 +6,9 @@ ghost use Rattle.cut_board.specs.Views.{idle, read, seen_in};
 ghost use Rattle.cut_board.specs.Refusals.{IsRefusedBy, read_refusal};
 ghost use Rattle.cut_hall.specs.Hall.{made_more};
 ghost use Rattle.cut_slots.specs.Lines.{full_line};
-ghost use Rattle.cut_book.specs.Book.{IsFresh, opening_of};
+ghost use Rattle.cut_book.specs.Book.{IsFresh};
+ghost use Rattle.cut_board.specs.Names.{board_id, seats_of, studies_of};
+ghost use Rattle.cut_slots.specs.Start.{start_of};
 ghost use Rattle.cut_hall.specs.Rows.{CanNotGiveAgain, rows_of};
 ghost use Rattle.cut_slots.specs.Slot.{CanNotBegin};
 ghost use Rattle.cut_slots.specs.Trust.{MayBegin};
@@ -124,14 +126,14 @@ impl<D: Disk + Drop, M: CallLedger, K: CallLedger> Hall<D, M, K> {
     }
 
     /// A hall whose only slot has this book, of which nothing was asked yet, and its 1 to 129 passes. The blanks are as
-    /// in `start`.
+    /// in `start`. If memory runs out the book comes back as it was.
     pub fn of_book(
         alloc: Global,
         book: Book<D>,
         piece_size: u32,
         passes: u32,
         blanks: Blanks,
-    ) -> Result<(Hall<D, M, K>, Vec<Pass<M>>), AllocError>
+    ) -> Result<(Hall<D, M, K>, Vec<Pass<M>>), Book<D>>
         requires fresh { IsFresh book.state.ledger.plan book.size book }
         requires good { AreGood book.state.ledger.plan book.state.ledger.base }
         requires untrusted { K.trusts ≡ false }
@@ -140,24 +142,17 @@ impl<D: Disk + Drop, M: CallLedger, K: CallLedger> Hall<D, M, K> {
         requires made { (blanks.made.name ≡ M.name) × (blanks.made.parts ≡ M.parts)
             × (M.all ≡ M.parts) × (M.all ≡ passes) }
         requires kept { (blanks.kept.name ≡ K.name) × (blanks.kept.parts ≡ K.parts)
-            × (K.all ≡ K.parts) × (K.all ≡ 1) × (K.opening ≡ Some (opening_of book)) }
+            × (K.all ≡ K.parts) × (K.all ≡ 1) × (K.opening ≡ Some (start_of D.log book)) }
         ensures hall { IfOk result (λ r. (r.0.slots ≡ 1) × (r.0.passes ≡ passes)) }
-        ensures opening { IfOk result (λ r. r.0.opening ≡ Some (opening_of book)) }
+        ensures opening { IfOk result (λ r. r.0.opening ≡ Some (start_of D.log book)) }
         ensures passes { IfOk result (λ r. length r.1.items ≡ passes) }
         ensures own { IfOk result (λ r. All (λ p. p.hall ≡ r.0.id) r.1.items) }
+        ensures back { IfErr result (λ back. back ≡ book) }
     {
-        let (accounts, made, kept) = Accounts::open(blanks);
-        let places = place_of(alloc, book, kept)?;
-        let (board, seats) = Board::start(alloc, 1, passes)?;
-        let given = make_passes(alloc, &board, seats, made)?;
-        let hall = Hall {
-            board,
-            places,
-            accounts: Mutex::new(accounts),
-            passes,
-            piece_size,
-        };
-        Ok((hall, given))
+        match EmptyHall::make(alloc, passes, blanks) {
+            Ok(empty) => Ok(empty.keep(alloc, book, piece_size)),
+            Err(_refused) => Err(book),
+        }
     }
 
     /// Gives a plan's study a slot: that which it has already, or else the next that is free, for which its disk comes
@@ -298,22 +293,77 @@ impl<D: Disk + Drop, M: CallLedger, K: CallLedger> Hall<D, M, K> {
     }
 }
 
-/// The only slot of a hall, with a book of which nothing was asked yet.
-fn place_of<D: Disk + Drop, K: CallLedger>(
-    alloc: Global,
-    book: Book<D>,
+/// A hall that is to have one slot, for which there is room, and its passes.
+#[derive(Drop)]
+struct EmptyHall<D: Disk, M: CallLedger, K: CallLedger> {
+    board: Board,
+    places: Vec<LockedSlot<D, K>>,
+    accounts: Accounts<M, K>,
+    passes: Vec<Pass<M>>,
+    count: u32,
     kept: Share<K>,
-) -> Result<Vec<LockedSlot<D, K>>, AllocError>
-    requires part { (kept.parts ≡ 1) × (kept.amount ≡ 0) }
-    requires fresh { IsFresh book.state.ledger.plan book.size book }
-    requires begun { MayBegin K.trusts book.state.ledger.plan book.state.ledger.base }
-    requires opened { K.opening ≡ Some (opening_of book) }
-    ensures { IfOk result (λ places. vec_len places ≡ 1) }
-{
-    let slot = Slot::new(alloc, Some(book), kept);
-    let mut places = Vec::new(alloc);
-    places.push(LockedSlot::new(slot))?;
-    Ok(places)
+    ghost none: { vec_len places ≡ 0 },
+    ghost room: { 0 < vec_capacity places },
+    ghost one: { studies_of board ≡ 1 },
+    ghost seats: { (count ≡ seats_of board) × (0 < count) × (count ≡ M.all) × (K.all ≡ 1) },
+    ghost given: { length passes.items ≡ count },
+    ghost own: { All (λ p. p.hall ≡ board_id board) passes.items },
+    ghost part: { (kept.parts ≡ 1) × (kept.amount ≡ 0) },
+}
+
+impl<D: Disk + Drop, M: CallLedger, K: CallLedger> EmptyHall<D, M, K> {
+    /// The hall with this many passes.
+    fn make(alloc: Global, passes: u32, blanks: Blanks) -> Result<EmptyHall<D, M, K>, AllocError>
+        requires passes { (0 < passes) × (passes ≤ 129) }
+        requires made { (blanks.made.name ≡ M.name) × (blanks.made.parts ≡ M.parts)
+            × (M.all ≡ M.parts) × (M.all ≡ passes) }
+        requires kept { (blanks.kept.name ≡ K.name) × (blanks.kept.parts ≡ K.parts)
+            × (K.all ≡ K.parts) × (K.all ≡ 1) }
+        ensures count { IfOk result (λ h. h.count ≡ passes) }
+    {
+        let (accounts, made, kept) = Accounts::open(blanks);
+        let places = Vec::with_capacity(alloc, 1)?;
+        let (board, seats) = Board::start(alloc, 1, passes)?;
+        let given = make_passes(alloc, &board, seats, made)?;
+        Ok(EmptyHall {
+            board,
+            places,
+            accounts,
+            passes: given,
+            count: passes,
+            kept,
+        })
+    }
+
+    /// The hall with a book of which nothing was asked yet. Takes no memory.
+    fn keep(self, alloc: Global, book: Book<D>, piece_size: u32) -> (Hall<D, M, K>, Vec<Pass<M>>)
+        requires fresh { IsFresh book.state.ledger.plan book.size book }
+        requires begun { MayBegin K.trusts book.state.ledger.plan book.state.ledger.base }
+        requires opened { K.opening ≡ Some (start_of D.log book) }
+        requires size { 1 ≤ piece_size }
+        ensures hall { (result.0.slots ≡ 1) × (result.0.passes ≡ self.count) }
+        ensures opening { result.0.opening ≡ Some (start_of D.log book) }
+        ensures passes { length result.1.items ≡ self.count }
+        ensures own { All (λ p. p.hall ≡ result.0.id) result.1.items }
+    {
+        let EmptyHall {
+            board,
+            mut places,
+            accounts,
+            passes,
+            count,
+            kept,
+        } = self;
+        places.push_reserved(LockedSlot::new(Slot::new(alloc, Some(book), kept)));
+        let hall = Hall {
+            board,
+            places,
+            accounts: Mutex::new(accounts),
+            passes: count,
+            piece_size,
+        };
+        (hall, passes)
+    }
 }
 
 /// The slots, each without a book and with a part of the ledger of kept calls.

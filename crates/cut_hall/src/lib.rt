@@ -15,6 +15,7 @@ mod hall;
 mod locked_accounts;
 mod work;
 
+pub use close::ClosedStudy;
 pub use cut_outcome::{Gate, OpenGate};
 pub use cut_slots::{
     Blanks, CallLedger, Mismatch, NextRowFault, NotClosed, Pass, Report, SlotReport,

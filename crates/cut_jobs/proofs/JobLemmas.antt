@@ -1,9 +1,13 @@
 -- What a job prints, by what is asked for.
-use Rattle.std.proofs.Common.{ℕ, Bool, true, false, Bor, List, Option, Some, None, Result, Vec, Global, map}
+use Rattle.std.proofs.Common.{ℕ, Bool, true, false, Bor, List, Option, Some, None, Result, Vec, Global, map, inl, inr}
 use Rattle.std.specs.Bool.{⊤}
 use Rattle.cut_files.specs.Place.{Place}
 use Rattle.cut_machines.specs.JoinCommand.{EndsJoin}
+use Rattle.cut_disks.specs.Log.{DiskLog}
 use Rattle.cut_wires.specs.Log.{WireLog}
+use Rattle.cut_commands.specs.Run.{CommandAnswers, EndsCommandFrom}
+use Rattle.cut_commands.specs.Study.{RunsFrom, plain_task}
+use Rattle.cut_commands.proofs.Sources.{ends_from_read, ends_from_unread}
 use Rattle.cut_command_line.specs.declared.line.Job.TheVariants.{Run, Share, Join}
 use Rattle.cut_commands.specs.declared.fault.CliFault.{CliFault}
 use Rattle.cut_jobs.specs.Jobs.{PrintsOn, TellsRefused}
@@ -35,3 +39,11 @@ pub tells_join : (to : Bor (List ℕ)) (from : Vec (Bor (List ℕ)) Global) (whi
     → TellsRefused (Join to from which plan) before after old new ended errors_old errors_new
 tells_join to from true plan before after old new ended errors_old errors_new is = is
 tells_join to from false plan before after old new ended errors_old errors_new is = tt
+
+-- a study without a disk has the table of its plan
+pub plain_ends : (plan : Option Place) (back : Option DiskLog) (old new : WireLog) (ended : Result ⊤ CliFault)
+    → RunsFrom None back plan old new ended → EndsCommandFrom plain_task plan old new ended
+plain_ends plan back old new ended runs = elim runs [
+  | inl over ↦ ends_from_read (CommandAnswers plain_task) plan old new ended (over.table tt)
+  | inr unread ↦ ends_from_unread (CommandAnswers plain_task) plan old new ended unread.1
+]

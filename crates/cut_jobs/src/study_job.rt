@@ -44,7 +44,7 @@ impl StudyJob<'_> {
             None => {
                 let source = PlanSource::of(&*files, self.plan);
                 let study = Study::new(self.work(gate), None::<F::Disk>, source);
-                run_from(system.rt, alloc, wire, study)
+                run_from(system.rt, alloc, wire, study).ended
             }
             Some(file) => {
                 let kept = KeptWork {

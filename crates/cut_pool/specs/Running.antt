@@ -9,7 +9,7 @@ use Rattle.cut_ledger.specs.Slips.{AreGood, IsFirstBad}
 use Rattle.cut_wires.specs.Log.{WireLog, wrote, write_failed}
 use Rattle.cut_pool.specs.Emission.{WrotePrefix}
 use Rattle.cut_book.specs.History.{Opening}
-use Rattle.cut_slots.specs.Report.{SlotEnd, AreOpenedWith, calls_in_all}
+use Rattle.cut_slots.specs.Report.{SlotEnd, AreOpenedBy, calls_in_all}
 use Rattle.cut_pool.specs.declared.run_fault.RunFault.{RunFault}
 use Rattle.cut_pool.specs.declared.run_fault.RunFault.TheVariants.{BadSlip, Checkpoint, Write, WorkMemory}
 use Rattle.cut_pool.specs.declared.run_fault.RunFault.TheVariants.{AuditMismatch}
@@ -24,7 +24,7 @@ slips_of (Some kept) = kept.1.items
 -- were held at the end, and whose history has at least a call for each line
 pub record IsReportOf (opening : Opening) (report : List SlotEnd) : Type 0 where
   pub one : length report ≡ 1
-  pub opened : AreOpenedWith (Some opening) report
+  pub opened : AreOpenedBy opening report
   pub complete : All (λ slot. slot.complete ≡ true) report
   pub lines : length (cells_of opening.plan) ≤ calls_in_all report
 

@@ -2,3 +2,4 @@
 pub mod Conclusion
 pub mod Emission
 pub mod Faults
+pub mod Leaving

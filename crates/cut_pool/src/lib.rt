@@ -13,4 +13,4 @@ mod study_run;
 pub use cut_book::{Book, NoShelf, Opened, Shelf, ShelfFault};
 pub use cut_hall::{Gate, Hall, OpenGate, Pass, Report};
 pub use run_fault::RunFault;
-pub use study_run::{Done, StudyRun, run_study};
+pub use study_run::{Done, EndedRun, StudyRun, run_study};

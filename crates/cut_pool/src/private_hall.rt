@@ -1,21 +1,24 @@
 ghost use Rattle.std.proofs.Props.{props};
-ghost use Rattle.std.specs.Prelude.{false, Some, ◌≡◌, ◌+◌, ◌<◌, ◌≤◌, length, All, IfOk, IfErr, OnOk};
+ghost use Rattle.std.specs.Prelude.{false, Some, Ok, ◌≡◌, ◌+◌, ◌<◌, ◌≤◌, length, All, IfOk, IfErr, OnOk};
 ghost use Rattle.atomic_table.specs.Seated.{TableId};
 ghost use Rattle.cut_plan.specs.Cells.{cells_of};
 ghost use Rattle.cut_ledger.specs.Table.{table_over};
 ghost use Rattle.cut_ledger.specs.Slips.{AreGood};
 ghost use Rattle.cut_pool.specs.inside.Conclusion.{IsNotEnded};
 ghost use Rattle.cut_pool.specs.inside.Emission.{EmitsStudy};
-ghost use Rattle.cut_slots.specs.Report.{AreOpenedWith, calls_in_all};
+ghost use Rattle.cut_slots.specs.Report.{calls_in_all};
+ghost use Rattle.cut_slots.specs.Start.{AreOpenedWith, start_of};
+ghost use Rattle.cut_hall.specs.Closing.{IsStudyEnd};
 ghost use Rattle.cut_pool.specs.inside.Faults.{of_closing};
-ghost use Rattle.cut_book.specs.Book.{IsFresh, opening_of};
+ghost use Rattle.cut_book.specs.Book.{IsFresh};
 ghost use Rattle.cut_slots.specs.Trust.{begun_props};
 
 use crate::RunFault;
 use crate::emit::{EmitFault, StudyRows, emit};
 use cut_book::{Book, Opened};
 use cut_disks::Disk;
-use cut_hall::{Blanks, CallLedger, Gate, Hall, NotClosed, Pass, Report};
+use cut_hall::{Blanks, CallLedger, ClosedStudy, Gate, Hall, NotClosed, Pass, Report};
+use cut_journal::Journal;
 use cut_wires::Wire;
 use std::alloc::{AllocError, Global};
 use std::sync::Wait;
@@ -42,6 +45,15 @@ struct Env<'a, R, G> {
     gate: &'a G,
 }
 
+/// How the hall of a study ended: its report, or why it was not closed; whether an append of the study failed; and its
+/// journal, if it had one.
+#[derive(Drop)]
+pub(crate) struct EndedHall<D: Disk> {
+    pub(crate) report: Result<Report, RunFault>,
+    pub(crate) is_broken: bool,
+    pub(crate) journal: Option<Journal<D>>,
+}
+
 /// The passes of a study's workers: that of the thread that writes, and those of all others.
 #[derive(Drop)]
 struct WorkerPasses<M: CallLedger> {
@@ -63,40 +75,43 @@ pub(crate) struct PrivateHall<D: Disk, M: CallLedger, K: CallLedger> {
 
 impl<D: Disk + Drop, M: CallLedger, K: CallLedger> PrivateHall<D, M, K> {
     /// The hall of a study that has begun. The blanks are for the two ledgers of calls, of which the first has a part
-    /// for each worker, and the second has one part.
+    /// for each worker, and the second has one part. If memory runs out the book comes back as it was.
     pub(crate) fn open(
         alloc: Global,
         begun: OpenedStudy<D>,
         blanks: Blanks,
-    ) -> Result<PrivateHall<D, M, K>, AllocError>
+    ) -> Result<PrivateHall<D, M, K>, Book<D>>
         requires untrusted { K.trusts ≡ false }
         requires made { (blanks.made.name ≡ M.name) × (blanks.made.parts ≡ M.parts)
             × (M.all ≡ M.parts) × (M.all ≡ begun.workers) }
         requires kept { (blanks.kept.name ≡ K.name) × (blanks.kept.parts ≡ K.parts)
-            × (K.all ≡ K.parts) × (K.all ≡ 1) × (K.opening ≡ Some (opening_of begun.book)) }
+            × (K.all ≡ K.parts) × (K.all ≡ 1) × (K.opening ≡ Some (start_of D.log begun.book)) }
         ensures plan { IfOk result (λ s. s.opened.plan ≡ begun.book.state.ledger.plan) }
         ensures base { IfOk result (λ s. s.opened.base ≡ begun.book.state.ledger.base) }
-        ensures opening { IfOk result (λ s. s.hall.opening ≡ Some (opening_of begun.book)) }
+        ensures opening { IfOk result (λ s. s.hall.opening ≡ Some (start_of D.log begun.book)) }
+        ensures back { IfErr result (λ back. back ≡ begun.book) }
     {
         let OpenedStudy {
             book,
             piece_size,
             workers,
         } = begun;
-        let opened = Opened {
-            study: 0,
-            plan: book.ledger().plan().try_clone(alloc)?,
-            base: book.ledger().base().try_clone(alloc)?,
+        let Ok(opened) = opened_of(alloc, &book) else {
+            return Err(book);
         };
-        let (hall, mut others) = Hall::of_book(alloc, book, piece_size, workers, blanks)?;
-        let Some(writer) = others.pop() else {
-            unreachable!()
-        };
-        Ok(PrivateHall {
-            hall,
-            opened,
-            crew: WorkerPasses { writer, others },
-        })
+        match Hall::of_book(alloc, book, piece_size, workers, blanks) {
+            Ok((hall, mut others)) => {
+                let Some(writer) = others.pop() else {
+                    unreachable!()
+                };
+                Ok(PrivateHall {
+                    hall,
+                    opened,
+                    crew: WorkerPasses { writer, others },
+                })
+            }
+            Err(book) => Err(book),
+        }
     }
 
     /// Lets the other workers work, each in a thread of its own where one can be made, and writes the table in this
@@ -107,7 +122,7 @@ impl<D: Disk + Drop, M: CallLedger, K: CallLedger> PrivateHall<D, M, K> {
         alloc: Global,
         wire: &mut W,
         gate: &'a G,
-    ) -> (Result<u64, EmitFault>, Result<Report, RunFault>)
+    ) -> (Result<u64, EmitFault>, EndedHall<D>)
     where
         D: Send,
         M: Send + Sync,
@@ -118,11 +133,12 @@ impl<D: Disk + Drop, M: CallLedger, K: CallLedger> PrivateHall<D, M, K> {
         requires ledgers { (M.all ≡ M.parts) × (K.all ≡ K.parts) }
         ensures emits { EmitsStudy (table_over self.opened.plan self.opened.base) result.0
             (W.log wire.old) (W.log wire.new) }
-        ensures one { IfOk result.1 (λ report. length report ≡ 1) }
-        ensures opened { IfOk result.1 (λ report. AreOpenedWith self.hall.opening report) }
-        ensures calls { OnOk result.0 (IfOk result.1
+        ensures one { IfOk result.1.report (λ report. length report ≡ 1) }
+        ensures opened { IfOk result.1.report (λ report. AreOpenedWith self.hall.opening report) }
+        ensures calls { OnOk result.0 (IfOk result.1.report
             (λ report. length (cells_of self.opened.plan) ≤ calls_in_all report)) }
-        ensures why { IfErr result.1 IsNotEnded }
+        ensures why { IfErr result.1.report IsNotEnded }
+        ensures ends { IsStudyEnd D.log self.hall.opening result.1.report result.1.is_broken result.1.journal }
     {
         let PrivateHall {
             hall,
@@ -133,6 +149,20 @@ impl<D: Disk + Drop, M: CallLedger, K: CallLedger> PrivateHall<D, M, K> {
         let sent = stream(tools, &hall, &opened, &mut crew, wire);
         (sent, close_hall(alloc, hall, crew))
     }
+}
+
+/// What is opened of a book in the only slot of a hall.
+fn opened_of<D: Disk + Drop>(alloc: Global, book: &Book<D>) -> Result<Opened, AllocError>
+    ensures study { IfOk result (λ o. o.study ≡ 0) }
+    ensures plan { IfOk result (λ o. o.plan ≡ book.now.state.ledger.plan) }
+    ensures base { IfOk result (λ o. o.base ≡ book.now.state.ledger.base) }
+{
+    let ledger = book.ledger();
+    Ok(Opened {
+        study: 0,
+        plan: ledger.plan().try_clone(alloc)?,
+        base: ledger.base().try_clone(alloc)?,
+    })
 }
 
 /// Lets the other workers work in threads of their own, and writes the table in this one. Once it is written, or can't
@@ -289,33 +319,61 @@ where
 }
 
 /// Closes a hall with the passes of its workers. Passes are missing only if memory ran out.
-fn close_hall<D, M, K>(
-    alloc: Global,
-    hall: Hall<D, M, K>,
-    crew: WorkerPasses<M>,
-) -> Result<Report, RunFault>
+fn close_hall<D, M, K>(alloc: Global, hall: Hall<D, M, K>, crew: WorkerPasses<M>) -> EndedHall<D>
 where
     D: Disk + Drop,
     M: CallLedger,
     K: CallLedger,
     requires ledgers { (M.all ≡ M.parts) × (K.all ≡ K.parts) }
+    requires one { hall.slots ≡ 1 }
     requires others { All (λ p. p.hall ≡ hall.id) crew.others.items }
     requires writer { crew.writer.hall ≡ hall.id }
-    ensures slots { IfOk result (λ report. length report ≡ hall.slots) }
-    ensures opened { IfOk result (λ report. AreOpenedWith hall.opening report) }
-    ensures calls { IfOk result (λ report. crew.writer.made ≤ calls_in_all report) }
-    ensures why { IfErr result IsNotEnded }
+    ensures slots { IfOk result.report (λ report. length report ≡ 1) }
+    ensures opened { IfOk result.report (λ report. AreOpenedWith hall.opening report) }
+    ensures calls { IfOk result.report (λ report. crew.writer.made ≤ calls_in_all report) }
+    ensures why { IfErr result.report IsNotEnded }
+    ensures ends { IsStudyEnd D.log hall.opening result.report result.is_broken result.journal }
 {
     let WorkerPasses {
         writer,
         others: mut passes,
     } = crew;
-    let Ok(()) = passes.push(writer) else {
-        return Err(RunFault::WorkMemory);
-    };
-    match hall.close(alloc, passes) {
+    match passes.push(writer) {
+        Ok(()) => ended_hall(hall.close_study(alloc, passes)),
+        Err(_refused) => {
+            let ClosedStudy {
+                is_broken,
+                journal,
+                ..
+            } = hall.close_study(alloc, passes);
+            EndedHall {
+                report: Err(RunFault::WorkMemory),
+                is_broken,
+                journal,
+            }
+        }
+    }
+}
+
+/// How the hall of a study ended, with the fault of a run where it was not closed.
+fn ended_hall<D: Disk + Drop>(closed: ClosedStudy<D>) -> EndedHall<D>
+    ensures report { IfOk result.report (λ report. closed.report ≡ Ok report) }
+    ensures why { IfErr result.report IsNotEnded }
+    ensures rest { (result.is_broken ≡ closed.is_broken) × (result.journal ≡ closed.journal) }
+{
+    let ClosedStudy {
+        report,
+        is_broken,
+        journal,
+    } = closed;
+    let report = match report {
         Ok(report) => Ok(report),
         Err(not_closed) => Err(fault_of_closing(not_closed)),
+    };
+    EndedHall {
+        report,
+        is_broken,
+        journal,
     }
 }
 

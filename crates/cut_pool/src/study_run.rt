@@ -1,18 +1,22 @@
 ghost use Rattle.std.proofs.Props.{props};
 ghost use Rattle.std.specs.List.{list_all};
-ghost use Rattle.std.specs.Prelude.{false, Some, ◌≡◌, ◌+◌, ◌≤◌, Ok, None, length, is_some, IfOk, IfErr, IfSome, OnOk};
+ghost use Rattle.std.specs.Prelude.{false, Some, ◌≡◌, ◌+◌, ◌≤◌, Ok, Err, None, length, is_some, IfOk, IfErr, IfSome, OnOk};
 ghost use Rattle.cut_disks.specs.Log.{IsKnown, on};
 ghost use Rattle.cut_journal.specs.Reading.{reading};
 ghost use Rattle.cut_ledger.specs.Slips.{AreGood};
 ghost use Rattle.cut_pool.specs.inside.Conclusion.{IsNotBegun, IsNotEnded, CanLose, Concludes, conclusion};
 ghost use Rattle.cut_pool.specs.inside.Faults.{of_line};
 ghost use Rattle.cut_pool.specs.Running.{slips_of, HasEnded, Takes};
-ghost use Rattle.cut_book.specs.Book.{IsFresh, opening_of};
+ghost use Rattle.cut_book.specs.Book.{IsFresh, failures_of};
+ghost use Rattle.cut_slots.specs.Start.{start_of};
+ghost use Rattle.cut_pool.specs.Faults.{of_opening};
+ghost use Rattle.cut_pool.specs.Leaving.{LeavesDisk};
+ghost use Rattle.cut_pool.specs.inside.Leaving.{IsDiskOf, LeavesBegun, journal_in};
 
 use crate::RunFault;
 use crate::emit::EmitFault;
-use crate::private_hall::{OpenedStudy, PrivateHall};
-use cut_book::Book;
+use crate::private_hall::{EndedHall, OpenedStudy, PrivateHall};
+use cut_book::{Book, BookFault};
 use cut_disks::Disk;
 use cut_hall::{Blanks, CallLedger, Gate, NextRowFault, Report};
 use cut_journal::Journal;
@@ -55,6 +59,15 @@ pub struct StudyRun<'a, D: Disk> {
         → reading plan.now (on (D.log k.0.disk)).bytes ≡ Ok k.1.items) } by { Prim.hlevel props },
 }
 
+/// How a run ended, with the disk of its study.
+#[derive(Drop)]
+pub struct EndedRun<D: Disk> {
+    /// All was written, or why not.
+    pub ended: Result<Done, RunFault>,
+    /// The disk of the journal, if there is one.
+    pub disk: Option<D>,
+}
+
 impl<D: Disk + Drop + Send> StudyRun<'_, D> {
     /// Runs the study, and writes its table to the wire: each line as soon as its cell and those before it are done.
     /// The thread of the caller writes, and works while a line is not there; the other workers have threads of their
@@ -62,21 +75,24 @@ impl<D: Disk + Drop + Send> StudyRun<'_, D> {
     ///
     /// With a journal the study goes on from the slips that it was opened with, and each piece is kept in it. The table
     /// is that over the slips, which is the plan's if they are true. A bad slip is reported before any byte is written.
-    /// The gate's `opened` is called once the book is open.
+    /// The gate's `opened` is called once the book is open. The disk comes back however it ends, with the slips that it
+    /// had and, after them, those of what was run.
     pub fn run<'a, W, G, R>(
         self,
         rt: &'a R,
         alloc: Global,
         wire: &mut W,
         gate: &'a G,
-    ) -> Result<Done, RunFault>
+    ) -> EndedRun<D>
     where
         W: Wire,
         G: Gate + Sync,
         R: Threads + Wait + Sync,
         ensures ended { HasEnded self.entry.plan.now (slips_of self.entry.kept) (is_some self.entry.kept)
-            self.entry.piece_size result }
-        ensures takes { Takes self.entry.plan.now (slips_of self.entry.kept) result (W.log wire.old) (W.log wire.new) }
+            self.entry.piece_size result.ended }
+        ensures takes { Takes self.entry.plan.now (slips_of self.entry.kept) result.ended
+            (W.log wire.old) (W.log wire.new) }
+        ensures left { LeavesDisk D.log self.entry.plan.now self.entry.kept result.ended result.disk }
     {
         let StudyRun {
             plan,
@@ -84,25 +100,34 @@ impl<D: Disk + Drop + Send> StudyRun<'_, D> {
             piece_size,
             workers,
         } = self;
-        let book = open_kept(alloc, plan, kept, piece_size)?;
+        cut_book::laws::studies_take_their_own();
         laws::plans_are_accepted(plan);
-        let held = trials_held(plan, book.ledger().base().as_slice());
-        gate.opened(rt, u64::from(held), u64::from(plan.trials()));
-        let begun = OpenedStudy {
-            book,
-            piece_size,
-            workers,
-        };
-        let blanks = Blanks {
-            made: Blank::new(u64::from(workers)),
-            kept: Blank::new(1),
-        };
-        run_begun::<D, Brand, Brand, W, G, R>(rt, alloc, begun, blanks, wire, gate)
+        match open_kept(alloc, plan, kept, piece_size) {
+            Ok(book) => {
+                let held = trials_held(plan, book.ledger().base().as_slice());
+                gate.opened(rt, u64::from(held), u64::from(plan.trials()));
+                let begun = OpenedStudy {
+                    book,
+                    piece_size,
+                    workers,
+                };
+                let blanks = Blanks {
+                    made: Blank::new(u64::from(workers)),
+                    kept: Blank::new(1),
+                };
+                run_begun::<D, Brand, Brand, W, G, R>(rt, alloc, begun, blanks, wire, gate)
+            }
+            Err((fault, journal)) => EndedRun {
+                ended: Err(fault),
+                disk: disk_of(journal),
+            },
+        }
     }
 }
 
 /// Runs the study of a plan by 1 to 64 workers, in pieces of `piece_size` trials, over a journal and the slips that it was
-/// opened with, if it is kept, and writes its table to the wire: [`StudyRun::run`], with its values as arguments.
+/// opened with, if it is kept, and writes its table to the wire: [`StudyRun::run`], with its values as
+/// arguments. The journal is given up.
 pub fn run_study<D, W, G, R>(
     rt: &R,
     alloc: Global,
@@ -133,16 +158,18 @@ where
         piece_size,
         workers,
     };
-    study.run(rt, alloc, wire, gate)
+    let EndedRun { ended, .. } = study.run(rt, alloc, wire, gate);
+    ended
 }
 
-/// The book of a plan's study over a journal and the slips that it was opened with, or over none.
+/// The book of a plan's study over a journal and the slips that it was opened with, or over none. If it is refused the
+/// journal comes back as it was.
 fn open_kept<D: Disk + Drop>(
     alloc: Global,
     plan: &Plan,
     kept: Option<(Journal<D>, Vec<Slip>)>,
     piece_size: u32,
-) -> Result<Book<D>, RunFault>
+) -> Result<Book<D>, (RunFault, Option<Journal<D>>)>
     requires size { 1 ≤ piece_size }
     requires journal { IfSome kept (λ k.
         (k.0.plan ≡ plan.now) × (k.0.count ≡ length k.1.items) × (k.0.doubtful ≡ None)) }
@@ -152,15 +179,49 @@ fn open_kept<D: Disk + Drop>(
     ensures slips { IfOk result (λ b. (b.state.ledger.plan ≡ plan.now)
         × (b.state.ledger.base ≡ slips_of kept) × (b.state.has_journal ≡ is_some kept)) }
     ensures size { IfOk result (λ b. b.size ≡ piece_size) }
+    ensures journal { IfOk result (λ b. (b.journal ≡ journal_in kept) × (b.failed ≡ failures_of D.log (journal_in kept))) }
     ensures good { OnOk result (AreGood plan.now (slips_of kept)) }
-    ensures err { IfErr result (IsNotBegun plan.now (slips_of kept)) }
+    ensures err { IfErr result (λ e. IsNotBegun plan.now (slips_of kept) e.0 × (e.1 ≡ journal_in kept)) }
 {
-    let plan = plan.try_clone(alloc)?;
+    let cloned = plan.try_clone(alloc);
     match kept {
-        Some((journal, slips)) => {
-            Ok(Book::new(alloc, plan, Some(journal), slips.as_slice(), piece_size)?)
-        }
-        None => Ok(Book::new(alloc, plan, None, &[], piece_size)?),
+        Some((journal, slips)) => match cloned {
+            Ok(plan) => opened(Book::over(
+                alloc,
+                plan,
+                Some(journal),
+                slips.as_slice(),
+                piece_size,
+            )),
+            Err(_refused) => Err((RunFault::WorkMemory, Some(journal))),
+        },
+        None => match cloned {
+            Ok(plan) => opened(Book::over(alloc, plan, None, &[], piece_size)),
+            Err(_refused) => Err((RunFault::WorkMemory, None)),
+        },
+    }
+}
+
+/// A book that was opened, or the fault of the run if it was not.
+fn opened<D: Disk + Drop>(
+    book: Result<Book<D>, (BookFault, Option<Journal<D>>)>,
+) -> Result<Book<D>, (RunFault, Option<Journal<D>>)>
+    ensures ok { IfOk book (λ b. result ≡ Ok b) }
+    ensures err { IfErr book (λ e. result ≡ Err (of_opening e.0, e.1)) }
+{
+    match book {
+        Ok(book) => Ok(book),
+        Err((fault, journal)) => Err((RunFault::from(fault), journal)),
+    }
+}
+
+/// The disk of a journal, if there is one.
+fn disk_of<D: Disk>(journal: Option<Journal<D>>) -> Option<D>
+    ensures { IsDiskOf D.log journal result }
+{
+    match journal {
+        Some(journal) => Some(journal.into_disk()),
+        None => None,
     }
 }
 
@@ -172,7 +233,7 @@ fn run_begun<'a, D, M, K, W, G, R>(
     blanks: Blanks,
     wire: &mut W,
     gate: &'a G,
-) -> Result<Done, RunFault>
+) -> EndedRun<D>
 where
     D: Disk + Drop + Send,
     M: CallLedger + Send + Sync,
@@ -184,28 +245,55 @@ where
     requires made { (blanks.made.name ≡ M.name) × (blanks.made.parts ≡ M.parts)
         × (M.all ≡ M.parts) × (M.all ≡ begun.workers) }
     requires kept { (blanks.kept.name ≡ K.name) × (blanks.kept.parts ≡ K.parts)
-        × (K.all ≡ K.parts) × (K.all ≡ 1) × (K.opening ≡ Some (opening_of begun.book)) }
+        × (K.all ≡ K.parts) × (K.all ≡ 1) × (K.opening ≡ Some (start_of D.log begun.book)) }
     ensures ended { HasEnded begun.book.state.ledger.plan begun.book.state.ledger.base begun.book.state.has_journal
-        begun.book.size result }
-    ensures takes { Takes begun.book.state.ledger.plan begun.book.state.ledger.base result
+        begun.book.size result.ended }
+    ensures takes { Takes begun.book.state.ledger.plan begun.book.state.ledger.base result.ended
         (W.log wire.old) (W.log wire.new) }
+    ensures left { LeavesBegun D.log begun.book result.ended result.disk }
 {
-    let has_journal = begun.book.journal().is_some();
-    let hall = PrivateHall::<D, M, K>::open(alloc, begun, blanks)?;
-    let (sent, closed) = hall.run(rt, alloc, wire, gate);
-    conclude_run(sent, closed, has_journal)
+    match PrivateHall::<D, M, K>::open(alloc, begun, blanks) {
+        Ok(hall) => {
+            let (sent, closed) = hall.run(rt, alloc, wire, gate);
+            conclude_run(sent, closed)
+        }
+        Err(book) => {
+            let (_history, journal) = book.into_parts();
+            EndedRun {
+                ended: Err(RunFault::WorkMemory),
+                disk: disk_of(journal),
+            }
+        }
+    }
 }
 
-/// The answer of a run, by how the writing of its table ended and how its hall was closed. A write that failed is
-/// reported before anything else. If all was written, the report is looked at once more: every trial has to be held.
-fn conclude_run(
+/// How a run ended, by how the writing of its table ended and how its hall was closed. A write that failed is reported
+/// before anything else. If all was written, the report is looked at once more: every trial has to be held.
+fn conclude_run<D: Disk>(sent: Result<u64, EmitFault>, closed: EndedHall<D>) -> EndedRun<D>
+    requires { IfErr closed.report IsNotEnded }
+    ensures concludes { Concludes sent closed.report closed.is_broken result.ended }
+    ensures disk { IsDiskOf D.log closed.journal result.disk }
+{
+    let EndedHall {
+        report,
+        is_broken,
+        journal,
+    } = closed;
+    EndedRun {
+        ended: conclusion(sent, report, is_broken),
+        disk: disk_of(journal),
+    }
+}
+
+/// What a run answers, by how the writing of its table ended, how its hall was closed, and whether an append failed.
+fn conclusion(
     sent: Result<u64, EmitFault>,
     closed: Result<Report, RunFault>,
-    has_journal: bool,
+    is_broken: bool,
 ) -> Result<Done, RunFault>
     requires { IfErr closed IsNotEnded }
-    ensures answer { result ≡ conclusion sent closed has_journal }
-    ensures concludes { Concludes sent closed has_journal result }
+    ensures answer { result ≡ conclusion sent closed is_broken }
+    ensures concludes { Concludes sent closed is_broken result }
 {
     match sent {
         Ok(sent) => match closed {
@@ -214,7 +302,7 @@ fn conclude_run(
             Err(fault) => Err(fault),
         },
         Err(RowsFault::Write(fault)) => Err(RunFault::Write(fault)),
-        Err(RowsFault::Row(fault)) => Err(fault_of_line(fault, closed.err(), has_journal)),
+        Err(RowsFault::Row(fault)) => Err(fault_of_line(fault, closed.err(), is_broken)),
     }
 }
 
@@ -226,16 +314,16 @@ fn is_complete(report: &Report) -> bool
 }
 
 /// What a run answers if a line did not come. Where calls can be counted no further, that is a mismatch of the audit,
-/// unless the hall could not be closed either. Without a journal no checkpoint fails: a slot that says so has not the
-/// study's book.
-fn fault_of_line(fault: NextRowFault, not_closed: Option<RunFault>, has_journal: bool) -> RunFault
+/// unless the hall could not be closed either. No checkpoint fails of a study that is not broken: a slot that says so has
+/// not the study's book.
+fn fault_of_line(fault: NextRowFault, not_closed: Option<RunFault>, is_broken: bool) -> RunFault
     requires { IfSome not_closed IsNotEnded }
-    ensures value { result ≡ of_line fault not_closed has_journal }
-    ensures can { CanLose result has_journal }
+    ensures value { result ≡ of_line fault not_closed is_broken }
+    ensures can { CanLose result is_broken }
 {
     match fault {
         NextRowFault::WorkMemory => RunFault::WorkMemory,
-        NextRowFault::Checkpoint if has_journal => RunFault::Checkpoint,
+        NextRowFault::Checkpoint if is_broken => RunFault::Checkpoint,
         NextRowFault::Stopped => not_closed.unwrap_or(RunFault::AuditMismatch),
         _ => RunFault::AuditMismatch,
     }

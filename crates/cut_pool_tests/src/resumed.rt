@@ -88,7 +88,7 @@ fn run_over<R: Threads + Wait + Sync>(
         workers: workers_from(row.workers),
     };
     let gate = NotingGate::new();
-    let report = counts_of(run.run(rt, alloc, &mut wire, &gate));
+    let report = counts_of(run.run(rt, alloc, &mut wire, &gate).ended);
     let taken = prefix_len(row.study, wire.taken());
     Ok((Ended { report, taken }, gate.calls().has_all()))
 }

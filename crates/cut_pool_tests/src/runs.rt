@@ -101,7 +101,7 @@ where
         piece_size: order.piece_size.max(1),
         workers: workers_from(order.workers),
     };
-    let report = counts_of(run.run(rt, alloc, &mut wire, gate));
+    let report = counts_of(run.run(rt, alloc, &mut wire, gate).ended);
     Ok(Ended {
         report,
         taken: prefix_len(order.study, wire.taken()),

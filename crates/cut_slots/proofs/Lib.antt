@@ -3,3 +3,4 @@ pub mod Apart
 pub mod Crossing
 pub mod Trusted
 pub mod Begun
+pub mod Ended

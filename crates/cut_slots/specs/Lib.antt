@@ -4,6 +4,7 @@ pub mod Pass
 pub mod Slot
 pub mod Turn
 pub mod Report
+pub mod Start
 pub mod Closing
 pub mod Trust
 pub mod inside

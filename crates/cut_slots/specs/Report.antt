@@ -1,6 +1,6 @@
 -- What a hall reports at its end.
 use Rattle.std.specs.Prelude.{◌≡◌, ◌≢◌, ◌≤◌, ◌⊎◌, ℕ, Bool, false, List, length, map, sum_by, Option, Some, None}
-use Rattle.std.specs.Prelude.{slice_get, Ok, All, IfSome, option_map}
+use Rattle.std.specs.Prelude.{slice_get, Ok, All, option_map}
 use Rattle.cut_board.specs.Views.{counted_by}
 use Rattle.cut_plan.specs.Cells.{trial_count}
 use Rattle.cut_plan.specs.Accepted.{plan_of}
@@ -44,9 +44,9 @@ IsAcceptedCount n =
 
 -- ---- all slots
 
--- if there is such an opening, every slot had a study, which was opened with it
-abbrev pub AreOpenedWith : Option Opening → List SlotEnd → Type 0
-AreOpenedWith opening slots = IfSome opening (λ o. All (λ s. opening_recorded s.history ≡ Some o) slots)
+-- every slot had a study, which was opened with this
+abbrev pub AreOpenedBy : Opening → List SlotEnd → Type 0
+AreOpenedBy opening slots = All (λ s. opening_recorded s.history ≡ Some opening) slots
 
 -- how many calls the studies had together, and how many the passes made together
 abbrev pub calls_in_all : List SlotEnd → ℕ

@@ -1,6 +1,6 @@
 -- A slot of a hall: the book of its study, and what each call does to it.
 use Rattle.std.specs.Prelude.{◌≡◌, ◌++◌, ◌<◌, ℕ, true, false, List, [], ◌∷◌, length, slice_get}
-use Rattle.std.specs.Prelude.{Option, Some, None, is_some, option_map, Bool, ◌&&◌, not, nat_lt, if◌then◌else◌, Result, Ok, Err, ◌⊎◌, ⊤, slice_set}
+use Rattle.std.specs.Prelude.{Option, Some, None, is_some, Bool, ◌&&◌, not, nat_lt, if◌then◌else◌, Result, Ok, Err, ◌⊎◌, ⊤, slice_set}
 use Rattle.std.specs.List.{list_any}
 use Rattle.cut_faults.specs.declared.code.FaultCode.TheVariants as code
 use Rattle.cut_plan.specs.Cells.{cells_of}
@@ -22,8 +22,7 @@ use Rattle.cut_slots.specs.declared.slot.CallFault.{CallFault}
 use Rattle.cut_slots.specs.declared.slot.CallFault.TheVariants.{NoBook, Full, Refused}
 use Rattle.cut_slots.specs.declared.slot.Match.{Match}
 use Rattle.cut_slots.specs.declared.slot.Match.TheVariants.{Free, Same, Other}
-use Rattle.cut_book.specs.Book.{BookValue, IsFresh, HandsIn, answer_of, opening_of}
-use Rattle.cut_book.specs.History.{Opening}
+use Rattle.cut_book.specs.Book.{BookValue, IsFresh, HandsIn, answer_of}
 use Rattle.cut_book.specs.declared.shelf.ShelfFault.{ShelfFault}
 use Rattle.cut_book.specs.declared.shelf.ShelfFault.TheVariants.{Open}
 use Rattle.cut_book.specs.declared.submit_fault.SubmitFault.{SubmitFault}
@@ -33,10 +32,6 @@ use Rattle.cut_book.specs.declared.submit_fault.SubmitFault.TheVariants as submi
 abbrev pub calls_in : {D : Type 0} → Option (BookValue D) → ℕ
 calls_in None = 0
 calls_in (Some b) = length b.calls
-
--- with what it was opened
-abbrev pub opening_in : {D : Type 0} → Option (BookValue D) → Option Opening
-opening_in book = option_map opening_of book
 
 -- whether it has a journal
 abbrev pub has_journal_in : {D : Type 0} → Option (BookValue D) → Bool

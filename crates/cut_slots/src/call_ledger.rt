@@ -1,5 +1,5 @@
 ghost use Rattle.std.specs.Prelude.{ℕ, Bool, Option};
-ghost use Rattle.cut_book.specs.History.{Opening};
+ghost use Rattle.cut_slots.specs.Start.{StudyStart};
 
 use std::marker::Brand;
 use std::sync::ledger::{Blank, Ledger};
@@ -12,8 +12,8 @@ pub trait CallLedger: Ledger {
     /// Whether the slips that studies begin with, whose calls it counts, are those that their trials give.
     ghost trusts: { Bool };
 
-    /// With what the study of each of its slots was opened, if they were made with one.
-    ghost opening: { Option Opening };
+    /// With what the study of each of its slots began, if they were made with one.
+    ghost opening: { Option StudyStart };
 }
 
 /// The blanks of a hall's two ledgers of calls.

@@ -7,10 +7,11 @@ ghost use Rattle.cut_ledger.specs.declared.lines.line.TheConstants.{LONGEST_LINE
 ghost use Rattle.cut_plan.specs.Cells.{cells_of};
 ghost use Rattle.cut_slots.specs.Lines.{full_line};
 ghost use Rattle.cut_slots.specs.Report.{calls_recorded, opening_recorded};
-ghost use Rattle.cut_book.specs.Book.{HandsIn, IsHandInFault, answer_of, opening_of};
+ghost use Rattle.cut_book.specs.Book.{HandsIn, IsHandInFault, answer_of};
 ghost use Rattle.cut_slots.specs.Trust.{IsSettledBy-prop, MayBegin, begun_props};
 ghost use Rattle.cut_slots.specs.Slot.{CanNotBegin, has_journal_in, IsBegunOver};
-ghost use Rattle.cut_slots.specs.Slot.{calls_in, opening_in, IsBegunStudy, base_of, kept_of, unkept_of, Matches, TakesResult};
+ghost use Rattle.cut_slots.specs.Start.{IsLeftOf, start_in, start_of};
+ghost use Rattle.cut_slots.specs.Slot.{calls_in, IsBegunStudy, base_of, kept_of, unkept_of, Matches, TakesResult};
 ghost use Rattle.cut_slots.specs.Slot.{TakesLoss, GivesLine, losses_of, lines_of};
 ghost use Rattle.cut_book.specs.Book.{IsFresh};
 ghost use Rattle.cut_ledger.specs.Slips.{AreGood};
@@ -22,6 +23,7 @@ ghost use Rattle.cut_slots.specs.inside.Slot.{CanGive, IsResultFault, calls_of};
 use crate::{CallCounter, CallLedger, NextRowFault, SlotReport};
 use cut_book::{Book, BookFault, Opened, Shelf, SubmitFault, open_book};
 use cut_disks::Disk;
+use cut_journal::Journal;
 use cut_outcome::{Piece, PieceResult};
 use cut_plan::Plan;
 use cut_table::{RowFault, row};
@@ -69,6 +71,19 @@ struct BegunStudy<D: Disk> {
     ghost unkept: { unkept_of (Some book) ≡ [] },
 }
 
+/// What a slot leaves at its end.
+#[derive(Drop)]
+pub struct EndedSlot<D: Disk, K: CallLedger> {
+    /// What is reported of it.
+    pub report: SlotReport,
+    /// The share of its calls.
+    pub kept: Share<K>,
+    /// Whether an append of its study failed.
+    pub is_broken: bool,
+    /// The journal of its study, if that had one.
+    pub journal: Option<Journal<D>>,
+}
+
 /// A place for the book of one study in a hall, with how many calls it had, and which of its lines were given.
 #[derive(Drop)]
 pub struct Slot<D: Disk, K: CallLedger> {
@@ -83,7 +98,7 @@ pub struct Slot<D: Disk, K: CallLedger> {
     ghost unkept: { unkept_of book ≡ [] },
     ghost begun: { IfSome book
         (λ b. MayBegin K.trusts b.state.ledger.plan b.state.ledger.base) } by { Prim.hlevel begun_props },
-    ghost opened: { IfSome K.opening (λ o. opening_in book ≡ Some o) } by { Prim.hlevel props },
+    ghost opened: { IfSome K.opening (λ o. start_in D.log book ≡ Some o) } by { Prim.hlevel props },
 }
 
 impl<D: Disk + Drop, K: CallLedger> Slot<D, K> {
@@ -93,7 +108,7 @@ impl<D: Disk + Drop, K: CallLedger> Slot<D, K> {
         requires part { (kept.parts ≡ 1) × (kept.amount ≡ 0) }
         requires fresh { IfSome book (λ b. IsFresh b.state.ledger.plan b.size b) }
         requires begun { IfSome book (λ b. MayBegin K.trusts b.state.ledger.plan b.state.ledger.base) }
-        requires opened { IfSome K.opening (λ o. opening_in book ≡ Some o) }
+        requires opened { IfSome K.opening (λ o. start_in D.log book ≡ Some o) }
         ensures book { result.book ≡ book }
         ensures works { result.stopped ≡ false }
     {
@@ -380,19 +395,31 @@ impl<D: Disk + Drop, K: CallLedger> Slot<D, K> {
         self.stopped
     }
 
-    /// Ends the slot, and returns its report and the share of its calls.
-    pub fn end(self) -> (SlotReport, Share<K>)
-        ensures part { result.1.parts ≡ 1 }
-        ensures calls { result.1.amount ≡ calls_recorded result.0.history }
-        ensures opened { IfSome K.opening (λ o. opening_recorded result.0.history ≡ Some o) }
+    /// Ends the slot. Where its study began with a known start, the journal is what that study leaves.
+    pub fn end(self) -> EndedSlot<D, K>
+        ensures part { result.kept.parts ≡ 1 }
+        ensures calls { result.kept.amount ≡ calls_recorded result.report.history }
+        ensures opened { IfSome K.opening (λ o. opening_recorded result.report.history ≡ Some o.opening) }
+        ensures left { IfSome K.opening (λ o. IsLeftOf D.log o result.report result.is_broken result.journal) }
     {
         let Slot { book, kept, .. } = self;
         let Some(book) = book else {
-            return (SlotReport::new(None, false), kept);
+            return EndedSlot {
+                report: SlotReport::new(None, false),
+                kept,
+                is_broken: false,
+                journal: None,
+            };
         };
         let complete = book.ledger().complete();
-        let (history, _) = book.into_parts();
-        (SlotReport::new(Some(history), complete), kept)
+        let is_broken = book.is_broken();
+        let (history, journal) = book.into_parts();
+        EndedSlot {
+            report: SlotReport::new(Some(history), complete),
+            kept,
+            is_broken,
+            journal,
+        }
     }
 
     /// Whether there is nothing to work on yet: there is no book, and the work was not ended.
@@ -491,7 +518,7 @@ fn hand_to<D: Disk + Drop>(book: &mut Book<D>, offered: &PieceResult) -> Result<
     ensures first { take (length book.old.state.ledger.base) book.old.state.kept ≡ book.old.state.ledger.base
         → take (length book.new.state.ledger.base) book.new.state.kept ≡ book.new.state.ledger.base }
     ensures unkept { unkept_of (Some book.old) ≡ [] → unkept_of (Some book.new) ≡ [] }
-    ensures opening { opening_of book.new ≡ opening_of book.old }
+    ensures start { start_of D.log book.new ≡ start_of D.log book.old }
 {
     book.hand_in(offered)
 }

@@ -2,7 +2,6 @@
 use Rattle.std.specs.Prelude.{◌≡◌, ◌++◌, ◌≤◌, ℕ, Bool, false, not, List, length, count_by}
 use Rattle.std.specs.Prelude.{Option, Some, None, IsTrue, IfSome, All, is_some, option_map, if◌then◌else◌, Result, Ok}
 use Rattle.std.specs.Prelude.{Err}
-use Rattle.cut_faults.specs.Failures.{one_more}
 use Rattle.cut_outcome.specs.Computed.{Computed}
 use Rattle.cut_outcome.specs.declared.piece.Piece.{Piece}
 use Rattle.cut_outcome.specs.Sum.{is_piece}
@@ -18,7 +17,8 @@ use Rattle.cut_journal.specs.Journal.{JournalValue}
 use Rattle.cut_book.specs.declared.call.Answer.{Answer}
 use Rattle.cut_book.specs.declared.call.Answer.TheVariants.{Accepted, Stranger, Overlap, DiskFails, Broken}
 use Rattle.cut_book.specs.History.{HistoryValue, opened_by, LeadsTo, accepted_slips}
-use Rattle.cut_book.specs.Book.{BookValue, failures_of, FollowsState}
+use Rattle.cut_book.specs.Kept.{doubtful_in}
+use Rattle.cut_book.specs.Book.{BookValue, failures_of, failed_since, FollowsState}
 
 -- the answer that a refusal of the ledger is
 abbrev pub answer_to : OfferFault → Answer
@@ -38,11 +38,6 @@ append_answer (Err failed) = DiskFails
 abbrev pub kept_in : HistoryValue → List Slip
 kept_in h =
     if h.opening.has_journal then h.opening.base ++ accepted_slips h.calls else h.opening.base
-
--- the slip of an append that failed
-abbrev pub doubtful_in : {D : Type 0} → Option (JournalValue D) → Option Slip
-doubtful_in None = None
-doubtful_in (Some log) = log.doubtful
 
 -- the state of a study, by what its book has
 abbrev pub state_in : {D : Type 0} → Contents → Option (JournalValue D) → List Piece → List Bool → HistoryValue → Bool
@@ -68,10 +63,6 @@ book_value_in journal s history failed = record {
   calls = history.calls;
   failed = failed;
 }
-
--- how many calls of the disk have failed since the book was opened
-abbrev pub failed_since : Bool → ℕ → ℕ
-failed_since broken failed = if broken then one_more failed else failed
 
 -- what is true of every book: of a disk, by what is known of each
 pub record IsBook {D : Type 0} (log_of : D → DiskLog)

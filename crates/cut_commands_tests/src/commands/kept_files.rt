@@ -30,7 +30,7 @@ fn is_run<T: Threads + Wait + Sync>(
 ) -> Result<bool, Fail> {
     let mut wire = wire_of(alloc)?;
     let kept = KeptWork {
-        work: work_of(1, 2),
+        work: work_of(2, 2),
         file: FILE,
         plan: None,
     };
@@ -38,16 +38,26 @@ fn is_run<T: Threads + Wait + Sync>(
     Ok(ended.is_ok() && is_table(wire.taken(), LINE))
 }
 
+/// Whether the file of the study is that of a whole study of the plan, whose trials are one piece.
+fn is_whole<T: Threads + Wait + Sync>(
+    rt: &T,
+    alloc: Global,
+    files: &MemoryFiles<MemoryDisk>,
+) -> Result<bool, Fail> {
+    let kept = files.read(alloc, FILE)?;
+    let whole = whole_file(rt, alloc, PLAN)?;
+    Ok(kept.as_slice() == whole.as_slice())
+}
+
 #[test]
 fn a_study_is_kept_at_its_path(rt: HostRuntime) -> Result<(), Fail> {
     let alloc = rt.alloc();
     let mut files = MemoryFiles::new(alloc);
     assert!(rt; is_run(&rt, alloc, &mut files)?);
-    // What stands there is not shut, so that it does not open a second time.
-    assert!(rt; files.disk(FILE).is_none() && files.open(FILE, Mode::Create).is_err());
-    let kept = MemoryDisk::of(alloc, whole_file(&rt, alloc, PLAN)?)?;
-    files.put(FILE, kept)?;
+    assert!(rt; is_whole(&rt, alloc, &files)?);
+    // It was shut, so that it opens once more, and nothing is added to a whole study.
     assert!(rt; is_run(&rt, alloc, &mut files)?);
+    assert!(rt; is_whole(&rt, alloc, &files)?);
     files.refuse(FILE)?;
     assert!(rt; !is_run(&rt, alloc, &mut files)?);
     Ok(())

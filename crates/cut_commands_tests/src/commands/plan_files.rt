@@ -138,12 +138,8 @@ fn is_run<T: Threads + Wait + Sync>(rt: &T, alloc: Global) -> Result<bool, Fail>
     let files = files_of(alloc, PLAN.as_bytes())?;
     let mut wire = wire_of(alloc)?;
     let source = PlanSource::of(&files, Some(PLAN_FILE));
-    run_from(
-        rt,
-        alloc,
-        &mut wire,
-        Study::new(work_of(1, 2), NO_DISK, source),
-    )?;
+    let study = Study::new(work_of(1, 2), NO_DISK, source);
+    run_from(rt, alloc, &mut wire, study).ended?;
     Ok(is_table(wire.taken(), LINE))
 }
 

@@ -32,12 +32,12 @@ abbrev pub NoWriteFailed : Result ℕ (RowsFault NextRowFault) → Type 0
 NoWriteFailed (Err (rows.Write fault)) = ⊥
 NoWriteFailed sent = ⊤
 
--- what a run answers if a line did not come: Checkpoint only with a journal, and no fault of a write or a slip
+-- what a run answers if a line did not come: Checkpoint only of a study that is broken, and no fault of a write or a slip
 abbrev pub CanLose : RunFault → Bool → Type 0
-CanLose WorkMemory has_journal = ⊤
-CanLose AuditMismatch has_journal = ⊤
-CanLose Checkpoint has_journal = IsTrue has_journal
-CanLose other has_journal = ⊥
+CanLose WorkMemory is_broken = ⊤
+CanLose AuditMismatch is_broken = ⊤
+CanLose Checkpoint is_broken = IsTrue is_broken
+CanLose other is_broken = ⊥
 
 -- the answer if the whole table was sent, and the hall was closed with a report: a trial that is not held at the end of
 -- a slot is a mismatch
@@ -47,19 +47,19 @@ audited sent report =
 
 -- the answer: the first that went wrong of the sending, the closing and the audit
 abbrev pub conclusion : Result ℕ (RowsFault NextRowFault) → Result (List SlotEnd) RunFault → Bool → Result Done RunFault
-conclusion (Ok sent) (Ok report) has_journal = audited sent report
-conclusion (Ok sent) (Err fault) has_journal = Err fault
-conclusion (Err (rows.Write fault)) closed has_journal = Err (Write fault)
-conclusion (Err (rows.Row fault)) closed has_journal = Err (of_line fault (result_err closed) has_journal)
+conclusion (Ok sent) (Ok report) is_broken = audited sent report
+conclusion (Ok sent) (Err fault) is_broken = Err fault
+conclusion (Err (rows.Write fault)) closed is_broken = Err (Write fault)
+conclusion (Err (rows.Row fault)) closed is_broken = Err (of_line fault (result_err closed) is_broken)
 
 -- what is known of it: done if all was sent, and the hall was closed with every trial held; a write that failed as it
--- is; and else another fault, Checkpoint only of a study with a journal
+-- is; and else another fault, Checkpoint only of a study that is broken
 abbrev pub Concludes : Result ℕ (RowsFault NextRowFault) → Result (List SlotEnd) RunFault → Bool → Result Done RunFault
     → Type 0
-Concludes sent closed has_journal (Ok d) =
+Concludes sent closed is_broken (Ok d) =
     (sent ≡ Ok d.sent) × (closed ≡ Ok d.report) × All (λ slot. slot.complete ≡ true) d.report
-Concludes sent closed has_journal (Err (Write fault)) = sent ≡ Err (rows.Write fault)
-Concludes sent closed has_journal (Err Checkpoint) = NoWriteFailed sent × IsTrue has_journal
-Concludes sent closed has_journal (Err WorkMemory) = NoWriteFailed sent
-Concludes sent closed has_journal (Err AuditMismatch) = NoWriteFailed sent
-Concludes sent closed has_journal (Err (BadSlip number)) = ⊥
+Concludes sent closed is_broken (Err (Write fault)) = sent ≡ Err (rows.Write fault)
+Concludes sent closed is_broken (Err Checkpoint) = NoWriteFailed sent × IsTrue is_broken
+Concludes sent closed is_broken (Err WorkMemory) = NoWriteFailed sent
+Concludes sent closed is_broken (Err AuditMismatch) = NoWriteFailed sent
+Concludes sent closed is_broken (Err (BadSlip number)) = ⊥

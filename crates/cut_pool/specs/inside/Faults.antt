@@ -8,13 +8,13 @@ use Rattle.cut_pool.specs.declared.run_fault.RunFault.{RunFault}
 use Rattle.cut_pool.specs.declared.run_fault.RunFault.TheVariants as run
 
 -- why a run ended if a line did not come, by why, by what kept its hall from being closed, if anything did, and by
--- whether the study has a journal
+-- whether an append of the study failed
 abbrev pub of_line : NextRowFault → Option RunFault → Bool → RunFault
-of_line line.WorkMemory not_closed has_journal = run.WorkMemory
+of_line line.WorkMemory not_closed is_broken = run.WorkMemory
 of_line line.Checkpoint not_closed true = run.Checkpoint
 of_line line.Checkpoint not_closed false = run.AuditMismatch
-of_line line.Stopped not_closed has_journal = unwrap_or not_closed run.AuditMismatch
-of_line line.AuditMismatch not_closed has_journal = run.AuditMismatch
+of_line line.Stopped not_closed is_broken = unwrap_or not_closed run.AuditMismatch
+of_line line.AuditMismatch not_closed is_broken = run.AuditMismatch
 
 -- and if its hall was not closed; passes are missing only if memory ran out
 abbrev pub of_closing : {T : Type 0} → NotClosed T → RunFault

@@ -17,30 +17,30 @@ none_yet slots is = (ap length is, ap calls_in_all is)
 pub loop-place-init : goal.loop-place-init
 loop-place-init g c =
     let none = none_yet c.in_ok-slots.slots.items c.in_ok-slots.ensures.items in
-    let more = one_more c.in_ok-slots.slots.items c.push.new.self.items c.end-slot.result.0 c.in_ok-push.ensures.items
+    let more = one_more c.in_ok-slots.slots.items c.push.new.self.items c.end-report.result.report c.in_ok-push.ensures.items
     in
     record {
       many = omega (arith, none.0, more.0, c.into_iter-place-iterator.ensures.into_iter_gives.1, c.remove.ensures.len);
-      parts = omega (arith, none.0, more.0, c.end-slot.ensures.part);
-      amount = omega (arith, none.1, more.1, c.end-slot.ensures.calls);
+      parts = omega (arith, none.0, more.0, c.end-report.ensures.part);
+      amount = omega (arith, none.1, more.1, c.end-report.ensures.calls);
       opened = one_more_opened g.K.CallLedger.opening c.in_ok-slots.slots.items c.push.new.self.items
-          c.end-slot.result.0 c.in_ok-push.ensures.items
+          c.end-report.result.report c.in_ok-push.ensures.items
           (none_opened g.K.CallLedger.opening c.in_ok-slots.slots.items c.in_ok-slots.ensures.items)
-          c.end-slot.ensures.opened;
+          c.end-report.ensures.opened;
     }
 
 pub loop-place-preserved : goal.loop-place-preserved
 loop-place-preserved g c =
-    let more = one_more c.loop-place.slots.items c.push-in-loop-place.new.self.items c.end-slot-in-loop-place.result.0
+    let more = one_more c.loop-place.slots.items c.push-in-loop-place.new.self.items c.end-report-in-loop-place.result.report
     c.in_ok-push-2.ensures.items in
     let at = c.loop-place.invariant in
     record {
       many = omega (arith, at.many, more.0, c.in-Some.ensures.steps.1);
-      parts = omega (arith, c.merge.ensures.parts, at.parts, c.end-slot-in-loop-place.ensures.part, more.0);
-      amount = omega (arith, c.merge.ensures.amount, at.amount, c.end-slot-in-loop-place.ensures.calls, more.1);
+      parts = omega (arith, c.merge.ensures.parts, at.parts, c.end-report-in-loop-place.ensures.part, more.0);
+      amount = omega (arith, c.merge.ensures.amount, at.amount, c.end-report-in-loop-place.ensures.calls, more.1);
       opened = one_more_opened g.K.CallLedger.opening c.loop-place.slots.items c.push-in-loop-place.new.self.items
-          c.end-slot-in-loop-place.result.0 c.in_ok-push-2.ensures.items at.opened
-          c.end-slot-in-loop-place.ensures.opened;
+          c.end-report-in-loop-place.result.report c.in_ok-push-2.ensures.items at.opened
+          c.end-report-in-loop-place.ensures.opened;
     }
 
 pub returns : goal.returns

@@ -1,6 +1,7 @@
 use Rattle.std.proofs.Common.{◌≡◌, ◌+◌, length, vec_len}
 use Rattle.std.specs.Vec.Iter.{into_iter_len}
-use Rattle.cut_slots.specs.Report.{calls_in_all, AreOpenedWith}
+use Rattle.cut_slots.specs.Report.{calls_in_all}
+use Rattle.cut_slots.specs.Start.{AreOpenedWith}
 use Rattle.cut_hall.proofs.close.end_all.Given as goal
 
 -- the slots so far are ended

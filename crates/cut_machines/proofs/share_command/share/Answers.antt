@@ -1,18 +1,9 @@
-use Rattle.std.proofs.Common.{◌≡◌, ◌∙◌, inl, Option, refl, ap, subst}
-use Rattle.cut_disks.specs.Log.{DiskLog}
-use Rattle.cut_files.specs.Place.{Place, Unknown, Absent, Refused, Open, Holds, closed, opened, while_open}
+use Rattle.std.proofs.Common.{◌∙◌, inl, Option, ap, subst}
+use Rattle.cut_files.specs.Place.{Place, closed, while_open}
 use Rattle.cut_files.proofs.Places.{stands_while_open}
-use Rattle.cut_commands.proofs.Sources.{same_place}
+use Rattle.cut_commands.proofs.Sources.{closed_opened, same_place}
 use Rattle.cut_machines.specs.Share.{SharesFrom}
 use Rattle.cut_machines.proofs.share_command.share.Goals as goal
-
--- a file that was opened is shut as if it had not been
-closed_opened : (disk : DiskLog) (place : Place) → closed disk (opened place) ≡ closed disk place
-closed_opened disk Unknown = refl
-closed_opened disk Absent = refl
-closed_opened disk Refused = refl
-closed_opened disk Open = refl
-closed_opened disk (Holds log) = refl
 
 pub returns-clause-ends : goal.returns-clause-ends
 returns-clause-ends g c =

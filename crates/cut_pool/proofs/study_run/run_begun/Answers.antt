@@ -1,72 +1,75 @@
-use denote.Bor.{Bor}
-use Rattle.std.proofs.Common.{◌≡◌, ◌∙◌, ◌≤◌, Bool, List, Option, Some, None, length, sym, ap, subst}
-use Rattle.std.specs.Prelude.{IfOk, OnOk, is_some, option_copied}
+use Rattle.std.proofs.Common.{◌≡◌, ◌≤◌, List, Option, Some, length, subst}
+use Rattle.std.specs.Prelude.{IfOk, OnOk}
 use Rattle.cut_plan.specs.Values.{Values}
 use Rattle.cut_plan.specs.Cells.{cells_of}
 use Rattle.cut_ledger.specs.declared.slip.Slip.{Slip}
 use Rattle.cut_ledger.specs.Table.{table_over}
-use Rattle.cut_pool.specs.inside.Conclusion.{Concludes}
+use Rattle.cut_book.specs.Book.{BookValue}
+use Rattle.cut_slots.specs.Report.{SlotEnd, calls_in_all}
+use Rattle.cut_slots.specs.Start.{AreOpenedWith, StudyStart, start_of}
+use Rattle.cut_hall.specs.Closing.{IsStudyEnd}
 use Rattle.cut_pool.specs.inside.Emission.{EmitsStudy}
-use Rattle.cut_book.specs.Book.{opening_of}
-use Rattle.cut_book.specs.History.{Opening}
-use Rattle.cut_slots.specs.Report.{SlotEnd, AreOpenedWith, calls_in_all}
+use Rattle.cut_pool.specs.inside.Leaving.{LeavesBegun}
+use Rattle.cut_pool.specs.declared.run_fault.RunFault.TheVariants.{WorkMemory}
+use Rattle.std.specs.Prelude.{Err}
 use Rattle.cut_pool.proofs.Conclusions.{ended, takes}
+use Rattle.cut_pool.proofs.Leaving.{broken_has, left_begun, left_unrun}
 use Rattle.cut_pool.proofs.study_run.run_begun.Goals as goal
 
--- the study has a journal where its book had one
-is_some_copied : {T : Type 0} (found : Option (Bor T)) (journal : Option T) → option_copied found ≡ journal
-    → is_some found ≡ is_some journal
-is_some_copied None journal is = ap (λ j. is_some j) is
-is_some_copied (Some one) journal is = ap (λ j. is_some j) is
+-- what the study of a hall left
+end : (g : _) (c : goal.After-conclude_run g) → IsStudyEnd g.D.Disk.log (Some (start_of g.D.Disk.log c.args.begun.book))
+    c.run-sent.result.1.report c.run-sent.result.1.is_broken c.run-sent.result.1.journal
+end g c =
+    subst (λ (o : Option StudyStart). IsStudyEnd g.D.Disk.log o c.run-sent.result.1.report c.run-sent.result.1.is_broken
+    c.run-sent.result.1.journal) c.in-Ok.ensures.opening c.run-sent.ensures.ends
 
-pub returns-clause-ended : goal.returns-clause-ended
-returns-clause-ended g c =
+emits : (g : _) (c : goal.After-conclude_run g) → EmitsStudy (table_over c.args.begun.book.state.ledger.plan
+    c.args.begun.book.state.ledger.base) c.run-sent.result.0 (g.W.Wire.log c.args.wire.now) (g.W.Wire.log c.run-sent.new.wire)
+emits g c =
     let v : Values = c.args.begun.book.state.ledger.plan in
-    let base : List Slip = c.in_ok-hall.hall.opened.base in
-    let has : c.is_some-has_journal.result ≡ c.args.begun.book.state.has_journal =
-    c.is_some-has_journal.ensures ∙ is_some_copied c.journal.result c.args.begun.book.journal c.journal.ensures.value
-    ∙ sym c.journal.ensures.has in
-    let concludes : Concludes c.run-sent.result.0 c.run-sent.result.1 c.args.begun.book.state.has_journal
-    c.conclude_run.result =
-    subst (λ (h : Bool). Concludes c.run-sent.result.0 c.run-sent.result.1 h c.conclude_run.result) has
-    c.conclude_run.ensures.concludes in
+    let base : List Slip = c.in-Ok.hall.opened.base in
     let old = g.W.Wire.log c.args.wire.now in
     let new = g.W.Wire.log c.run-sent.new.wire in
-    let emits : EmitsStudy (table_over v c.args.begun.book.state.ledger.base) c.run-sent.result.0 old new =
-    subst (λ (b : List Slip). EmitsStudy (table_over v b) c.run-sent.result.0 old new) c.in_ok-hall.ensures.base
-    (subst (λ (p : Values). EmitsStudy (table_over p base) c.run-sent.result.0 old new) c.in_ok-hall.ensures.plan
-    c.run-sent.ensures.emits) in
-    let calls : OnOk c.run-sent.result.0
-    (IfOk c.run-sent.result.1 (λ (report : List SlotEnd). length (cells_of v) ≤ calls_in_all report)) =
-    subst (λ (p : Values). OnOk c.run-sent.result.0
-    (IfOk c.run-sent.result.1 (λ (report : List SlotEnd). length (cells_of p) ≤ calls_in_all report)))
-    c.in_ok-hall.ensures.plan c.run-sent.ensures.calls in
-    let opened : IfOk c.run-sent.result.1 (λ (report : List SlotEnd).
-    AreOpenedWith (Some (opening_of c.args.begun.book)) report) =
-    subst (λ (o : Option Opening). IfOk c.run-sent.result.1 (λ (report : List SlotEnd). AreOpenedWith o report))
-    c.in_ok-hall.ensures.opening c.run-sent.ensures.opened in
-    ended v c.args.begun.book.state.ledger.base c.args.begun.book.state.has_journal c.args.begun.book.size
-    c.run-sent.result.0 c.run-sent.result.1
-    c.conclude_run.result old new c.args.begun.good emits c.run-sent.ensures.one opened calls concludes
+    subst (λ (b : List Slip). EmitsStudy (table_over v b) c.run-sent.result.0 old new) c.in-Ok.ensures.base
+    (subst (λ (p : Values). EmitsStudy (table_over p base) c.run-sent.result.0 old new) c.in-Ok.ensures.plan
+    c.run-sent.ensures.emits)
 
-pub returns-clause-takes : goal.returns-clause-takes
-returns-clause-takes g c =
+pub returns-in-Ok-clause-ended : goal.returns-in-Ok-clause-ended
+returns-in-Ok-clause-ended g c =
     let v : Values = c.args.begun.book.state.ledger.plan in
-    let base : List Slip = c.in_ok-hall.hall.opened.base in
-    let has : c.is_some-has_journal.result ≡ c.args.begun.book.state.has_journal =
-    c.is_some-has_journal.ensures ∙ is_some_copied c.journal.result c.args.begun.book.journal c.journal.ensures.value
-    ∙ sym c.journal.ensures.has in
-    let concludes : Concludes c.run-sent.result.0 c.run-sent.result.1 c.args.begun.book.state.has_journal
-    c.conclude_run.result =
-    subst (λ (h : Bool). Concludes c.run-sent.result.0 c.run-sent.result.1 h c.conclude_run.result) has
-    c.conclude_run.ensures.concludes in
-    let old = g.W.Wire.log c.args.wire.now in
-    let new = g.W.Wire.log c.run-sent.new.wire in
-    takes v c.args.begun.book.state.ledger.base c.args.begun.book.state.has_journal c.args.begun.book.size
-    c.run-sent.result.0
-    c.run-sent.result.1
-    c.conclude_run.result old new c.args.begun.good
-    (subst (λ (b : List Slip). EmitsStudy (table_over v b) c.run-sent.result.0 old new) c.in_ok-hall.ensures.base
-    (subst (λ (p : Values). EmitsStudy (table_over p base) c.run-sent.result.0 old new) c.in_ok-hall.ensures.plan
-    c.run-sent.ensures.emits))
-    concludes
+    let sent = c.run-sent.result.0 in
+    let closed = c.run-sent.result.1 in
+    let calls : OnOk sent (IfOk closed.report (λ (report : List SlotEnd). length (cells_of v) ≤ calls_in_all report)) =
+    subst (λ (p : Values). OnOk sent
+    (IfOk closed.report (λ (report : List SlotEnd). length (cells_of p) ≤ calls_in_all report)))
+    c.in-Ok.ensures.plan c.run-sent.ensures.calls in
+    let opened : IfOk closed.report (λ (report : List SlotEnd).
+    AreOpenedWith (Some (start_of g.D.Disk.log c.args.begun.book)) report) =
+    subst (λ (o : Option StudyStart). IfOk closed.report (λ (report : List SlotEnd). AreOpenedWith o report))
+    c.in-Ok.ensures.opening c.run-sent.ensures.opened in
+    ended v c.args.begun.book.state.ledger.base c.args.begun.book.state.has_journal closed.is_broken
+    c.args.begun.book.size sent closed.report c.conclude_run.result.ended (g.W.Wire.log c.args.wire.now)
+    (g.W.Wire.log c.run-sent.new.wire) c.args.begun.good (emits g c) c.run-sent.ensures.one opened calls
+    (broken_has g.D.Disk.log c.args.begun.book sent closed.report closed.is_broken closed.journal (end g c))
+    c.conclude_run.ensures.concludes
+
+pub returns-in-Ok-clause-takes : goal.returns-in-Ok-clause-takes
+returns-in-Ok-clause-takes g c =
+    let closed = c.run-sent.result.1 in
+    takes c.args.begun.book.state.ledger.plan c.args.begun.book.state.ledger.base
+    c.args.begun.book.state.has_journal closed.is_broken c.args.begun.book.size c.run-sent.result.0 closed.report
+    c.conclude_run.result.ended (g.W.Wire.log c.args.wire.now) (g.W.Wire.log c.run-sent.new.wire) c.args.begun.good
+    (emits g c) c.conclude_run.ensures.concludes
+
+pub returns-in-Ok-clause-left : goal.returns-in-Ok-clause-left
+returns-in-Ok-clause-left g c =
+    let closed = c.run-sent.result.1 in
+    left_begun g.D.Disk.log c.args.begun.book c.run-sent.result.0 closed.report closed.is_broken closed.journal
+    c.conclude_run.result.ended c.conclude_run.result.disk (end g c) c.conclude_run.ensures.concludes
+    c.conclude_run.ensures.disk
+
+pub returns-in-Err-clause-left : goal.returns-in-Err-clause-left
+returns-in-Err-clause-left g c =
+    subst (λ (b : BookValue _). LeavesBegun g.D.Disk.log b (Err WorkMemory) c.disk_of.result) c.in-Err.ensures.back
+    (left_unrun g.D.Disk.log c.in-Err.book c.into_parts-history.result.1 c.disk_of.result
+    c.into_parts-history.ensures.legal c.into_parts-history.ensures.left c.disk_of.ensures)

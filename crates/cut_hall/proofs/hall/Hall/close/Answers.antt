@@ -1,84 +1,9 @@
-use Rattle.std.proofs.Common.{◌≡◌, ℕ, ◌<◌, ◌∙◌, List, length, Option, Some, refl, sym, ap, subst, arith}
-use Rattle.std.specs.Prelude.{slice_get}
-use Rattle.std.proofs.lemmas.Option.{slice_get_within}
-use Rattle.cut_board.specs.declared.totals.StudyTotals.{StudyTotals}
-use Rattle.cut_board.specs.Names.{studies_of, views_of}
-use Rattle.cut_board.specs.Totals.{total_of}
+use Rattle.std.proofs.Common.{◌≡◌, ◌∙◌, List, length, refl, sym, ap, arith}
+use Rattle.std.proofs.lemmas.Result.{IfOk-weaker}
+use Rattle.cut_slots.specs.Report.{SlotEnd}
 use Rattle.cut_hall.specs.Hall.{HallValue}
-use Rattle.cut_book.specs.History.{Opening}
-use Rattle.cut_slots.specs.Report.{SlotEnd, AreOpenedWith, calls_in_all}
-use Rattle.cut_hall.proofs.Audits.{total_at, totals_many}
+use Rattle.cut_hall.proofs.Audits.{refused_as}
 use Rattle.cut_hall.proofs.hall.Hall.close.Goals as goal
-
-pub take_apart-requires-clause-own : goal.take_apart-requires-clause-own
-take_apart-requires-clause-own g c =
-    λ k d low. c.requires.own k d low ∙ sym (ap (λ (r : HallValue). r.id) c.self.view_is)
-
-pub audit-requires-clause-counted : goal.audit-requires-clause-counted
-audit-requires-clause-counted g c =
-    let n : ℕ = studies_of c.self.inside.board in
-    let views = views_of c.in-Ok.parts.seats.items in
-    let many = c.in-Ok-end_all.ensures.slots in
-    let places = c.self.invariant.0 in
-    let reported = ap (λ (ts : List StudyTotals). length ts) c.in-Ok-finish.ensures.totals in
-    let all = totals_many n views in
-    omega (arith, many, places, reported, all)
-
-pub audit-requires-clause-few : goal.audit-requires-clause-few
-audit-requires-clause-few g c =
-    let n : ℕ = studies_of c.self.inside.board in
-    let views = views_of c.in-Ok.parts.seats.items in
-    let reported = ap (λ (ts : List StudyTotals). length ts) c.in-Ok-finish.ensures.totals in
-    let few = c.self.inside.board.few in
-    let all = totals_many n views in
-    omega (arith, reported, all, few)
-
-pub returns-in-Ok-audit-clause-audit : goal.returns-in-Ok-audit-clause-audit
-returns-in-Ok-audit-clause-audit g c =
-    λ study s at.
-    let n : ℕ = studies_of c.self.inside.board in
-    let views = views_of c.in-Ok.parts.seats.items in
-    let slots : List SlotEnd = c.in-Ok-end_all.ends.slots.items in
-    let here : slice_get slots study ≡ Some s =
-    ap (λ (l : List SlotEnd). slice_get l study) (sym c.in-Ok-audit.ensures.same) ∙ at in
-    let low : study < n =
-    (let within = slice_get_within slots study s here in
-    let many = c.in-Ok-end_all.ensures.slots in
-    let places = c.self.invariant.0 in omega (arith, within, many, places)) in
-    let reported : slice_get c.in-Ok-finish.totals study ≡ Some (total_of views study) =
-    ap (λ (ts : List StudyTotals). slice_get ts study) c.in-Ok-finish.ensures.totals ∙ total_at n views study low in
-    sym (c.in-Ok.ensures.parts.counted study) ∙ c.in-Ok-audit.ensures.audited study s (total_of views study) here
-    reported
-
-pub returns-clause-why : goal.returns-clause-why
-returns-clause-why g c =
-    let n : ℕ = studies_of c.self.inside.board in
-    let views = views_of c.in-Ok.parts.seats.items in
-    let study : ℕ = c.in-Err.mismatch.study in
-    let slots : List SlotEnd = c.in-Ok-end_all.ends.slots.items in
-    let within = c.in-Err.ensures.within in
-    let ended = c.in-Ok-end_all.ensures.slots in
-    let places = c.self.invariant.0 in
-    let low : study < n = omega (arith, within, ended, places) in
-    let reported : slice_get c.in-Ok-finish.totals study ≡ Some (total_of views study) =
-    ap (λ (ts : List StudyTotals). slice_get ts study) c.in-Ok-finish.ensures.totals ∙ total_at n views study low in
-    let enough = c.in-Ok-finish.ensures.whole in
-    let many = c.in-Ok.ensures.parts.many in
-    let all = ap (λ (r : HallValue). r.passes) c.self.view_is in
-    let rooms = ap (λ (r : HallValue). r.slots) c.self.view_is in
-    let opening = ap (λ (r : HallValue). r.opening) c.self.view_is in
-    let report : c.in-Err.mismatch.report ≡ slots = c.in-Err.ensures.report in (
-      omega (arith, enough, many, all),
-      omega (arith, ap (λ (l : List SlotEnd). length l) report, ended, places, rooms),
-      omega (arith, low, rooms),
-      sym (c.in-Err.ensures.differs (total_of views study) reported) ∙ c.in-Ok.ensures.parts.counted study,
-      c.in-Err.mismatch.differ,
-      ap calls_in_all report ∙ sym c.in-Ok-end_all.ensures.kept.1 ∙ sym c.compare.ensures
-          ∙ c.in-Ok.ensures.parts.amount_is,
-      subst (λ (o : Option Opening). AreOpenedWith o c.in-Err.mismatch.report) opening
-          (subst (λ (l : List SlotEnd). AreOpenedWith g.K.CallLedger.opening l) (sym report)
-          c.in-Ok-end_all.ensures.opened),
-    )
 
 pub returns-then-lacks_passes-clause-why : goal.returns-then-lacks_passes-clause-why
 returns-then-lacks_passes-clause-why g c =
@@ -86,20 +11,23 @@ returns-then-lacks_passes-clause-why g c =
     let fewer = c.lacks_passes.ensures.fewer c.if-lacks_passes.true in
     (omega (arith, fewer, c.self.invariant.1, all), (refl, refl))
 
-pub take_apart-requires-clause-some : goal.take_apart-requires-clause-some
-take_apart-requires-clause-some g c =
-    let enough = c.lacks_passes.ensures.all c.if-lacks_passes.false in
-    omega (arith, enough, c.self.invariant.1, c.self.invariant.5)
-
 pub returns-in_default-clause-why : goal.returns-in_default-clause-why
 returns-in_default-clause-why g c =
     let all = ap (λ (r : HallValue). r.passes) c.self.view_is in
     let enough = c.lacks_passes.ensures.all c.if-lacks_passes.false in
     omega (arith, enough, c.self.invariant.1, all)
 
-pub returns-in-Ok-audit-clause-opened : goal.returns-in-Ok-audit-clause-opened
-returns-in-Ok-audit-clause-opened g c =
-    subst (λ (o : Option Opening). AreOpenedWith o c.in-Ok-audit.report)
-    (ap (λ (r : HallValue). r.opening) c.self.view_is)
-    (subst (λ (l : List SlotEnd). AreOpenedWith g.K.CallLedger.opening l) (sym c.in-Ok-audit.ensures.same)
-    c.in-Ok-end_all.ensures.opened)
+pub audit-requires-clause-own : goal.audit-requires-clause-own
+audit-requires-clause-own g c =
+    λ k d low. c.requires.own k d low ∙ sym (ap (λ (r : HallValue). r.id) c.self.view_is)
+
+pub returns-clause-slots : goal.returns-clause-slots
+returns-clause-slots g c =
+    IfOk-weaker c.audit.result (λ (slots : List SlotEnd). slots ≡ c.in-Ok.ends.slots.items)
+    (λ (slots : List SlotEnd). length slots ≡ c.args.self.slots)
+    (λ slots same. ap (λ (l : List SlotEnd). length l) same ∙ c.in-Ok.ensures.slots ∙ c.self.invariant.0
+    ∙ ap (λ (r : HallValue). r.slots) c.self.view_is) c.audit.ensures.same
+
+pub returns-clause-why : goal.returns-clause-why
+returns-clause-why g c =
+    refused_as _ _ c.args.self c.args.passes.items c.audit.result c.self.view_is c.audit.ensures.why

@@ -7,7 +7,7 @@ use Rattle.cut_pool.proofs.private_hall.PrivateHall.run.Goals as goal
 pub returns-clause-calls : goal.returns-clause-calls
 returns-clause-calls g c =
     on_ok_weaker c.stream-sent.result
-    (λ few. IfOk-weaker c.close_hall.result (λ (report : List SlotEnd). c.stream-sent.new.crew.writer.made
+    (λ few. IfOk-weaker c.close_hall.result.report (λ (report : List SlotEnd). c.stream-sent.new.crew.writer.made
     ≤ calls_in_all report)
     (λ (report : List SlotEnd). length (cells_of c.args.self.opened.plan) ≤ calls_in_all report)
     (λ report low. omega (arith, few, low)) c.close_hall.ensures.calls)

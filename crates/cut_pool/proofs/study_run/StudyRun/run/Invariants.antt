@@ -1,5 +1,5 @@
 use Rattle.std.proofs.Common.{false, None, Some}
-use Rattle.cut_book.specs.Book.{opening_of}
+use Rattle.cut_slots.specs.Start.{start_of}
 use Rattle.cut_pool.proofs.study_run.StudyRun.run.Given as goal
 
 abbrev pub ghosts-run_begun-M-Ledger : goal.ghosts-run_begun-M-Ledger
@@ -15,5 +15,5 @@ abbrev pub ghosts-run_begun-K-CallLedger : goal.ghosts-run_begun-K-CallLedger
 ghosts-run_begun-K-CallLedger g a = record {
   all = a.blanks.kept.parts;
   trusts = false;
-  opening = Some (opening_of a.begun.book);
+  opening = Some (start_of g.D.Disk.log a.begun.book);
 }
