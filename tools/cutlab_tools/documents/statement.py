@@ -1,22 +1,22 @@
-"""docs/statement/make [--check]: writes docs/STATEMENT.md, every definition that the program's theorem cites, word for
-word, in the order of docs/statement/skeleton.md, which is prose with lines of these kinds:
+"""docs/statement/make [--check]: writes docs/STATEMENT.md and docs/STATEMENT_COMMANDS.md, every definition that the program's
+theorem cites, word for word, in the order of docs/statement/run.md and commands.md. These are prose with lines of these kinds:
 
     {{theorem FILE FUNCTION}}      the contract of a function, with which the closure begins
-    {{definitions MODULE..}}       those of the closure that stand in these specs, as crate/File
+    {{needs MODULE:NAME..}}        what the page is for: of a module that it needs a part of, no more is printed there
+    {{definitions MODULE..}}       those of the closure that stand in these specs, as crate/File, and on no earlier page
     {{types FILE..}}               the types and constants of the closure that stand in these sources, as crate/file
     {{cited}}                      what is cited of the standard library and of other crates
-    {{counts}}                     how many definitions and lines there are
-    {{needs COMMAND MODULE:NAME..}}   how many of them a command needs, whose end these definitions say
+    {{counts}}                     how many definitions and lines the page has, and all pages
 
-With --check it writes nothing, and fails where the page isn't that. It fails where the theorem cites a definition of a folder
+With --check it writes nothing, and fails where a page isn't that. It fails where the theorem cites a definition of a folder
 specs/inside: these say how a crate keeps its values, and are for its own clauses and proofs."""
 import re
-from typing import Iterable, Iterator, Optional
+from typing import Any, Container, Iterable, Iterator, Mapping, Optional
 
 from ..repository import Repository
 from . import NotMade
 
-PAGE, SKELETON = "docs/STATEMENT.md", "docs/statement/skeleton.md"
+PAGES = {"docs/STATEMENT.md": "docs/statement/run.md", "docs/STATEMENT_COMMANDS.md": "docs/statement/commands.md"}
 TOKEN = re.compile(r"[^\s(){}\[\],;λ]+")
 NAME = re.compile(r"^\s*(?:(?:abbrev|unfoldable|pub|record|data)\s+)+([^\s:({]+)")
 FIELD = re.compile(r"^\s+pub \S+ :")
@@ -25,6 +25,7 @@ ITEM = r"((?:^ *///[^\n]*\n|^ *#\[[^\n]*\n)*)^ *(?:pub(?:\(crate\))? )?(?:struct
 CONTRACT = r"((?:^ *///[^\n]*\n)*)^ *pub fn %s\b.*?\n(?= *{\n)"
 CLAUSE = re.compile(r"(?:ensures|requires)[^{]*\{(.*?)\}\s*(?=ensures|requires|$)", re.S)
 Cited = tuple[str, str]  # a module, and a name of it
+Placed = tuple[str, int | str]  # a module and a paragraph of it, or a source and a type of it
 
 
 def without_comments(text: str) -> str:
@@ -142,81 +143,88 @@ class Closure:
             elif spec and head in spec.place:
                 self.visit_paragraph(spec, spec.place[head])
 
-    def counts(self) -> tuple[int, int]:
-        lines = [line.strip() for text in self.found.values() for line in text.split("\n")]
-        return len(self.found), sum(bool(line) and not line.startswith("--") for line in lines)
+    def counts(self, keys: Container[Any]) -> tuple[int, int]:
+        """How many of these definitions there are, and how many lines they have without comments."""
+        texts = [text for key, text in self.found.items() if key in keys]
+        lines = [line.strip() for text in texts for line in text.split("\n")]
+        return len(texts), sum(bool(line) and not line.startswith("--") for line in lines)
 
 
 class Page:
-    """The page that is made of the skeleton. What a line of it says in braces is a method with words."""
+    """A page that is made of its skeleton, line by line. What a line of it says in braces is a method with words."""
 
-    def __init__(self, repository: Repository) -> None:
-        self.repository, self.closure = repository, Closure(repository)
-        self.placed: set[str] = set()
-
-    def contract(self, path: str, function: str) -> str:
-        """A function's signature and clauses, as they are written, with its documentation."""
-        found = re.search(CONTRACT % function, self.repository.read(path), re.M | re.S)
-        if not found:
-            raise NotMade(f"{path} has no public {function}")
-        return found[0].rstrip("\n")
+    def __init__(self, repository: Repository, closure: Closure, earlier: set[Placed]) -> None:
+        self.repository, self.closure, self.earlier = repository, closure, earlier
+        self.needed, self.placed = Closure(repository), set[Placed]()
 
     def theorem(self, path: str, function: str) -> list[str]:
-        return ["```rust", self.contract(path, function), "```"]
+        """A function's signature and clauses, as they are written, with its documentation: the closure has what they cite."""
+        text = self.repository.read(path)
+        found = re.search(CONTRACT % function, text, re.M | re.S)
+        if not found:
+            raise NotMade(f"{path} has no public {function}")
+        for clause in CLAUSE.findall(found[0].rstrip("\n")):
+            self.closure.follow(Uses(ghost_uses(text)), clause)
+        return ["```rust", found[0].rstrip("\n"), "```"]
+
+    def needs(self, *words: str) -> list[str]:
+        for module, name in (word.split(":") for word in words):
+            self.needed.visit((module_of(module), name))
+        return []
 
     def definitions(self, *words: str) -> list[str]:
-        lines = []
+        lines, found = [], {it: self.closure.found[it] for it in sorted(self.closure.found)}
         for word, module in zip(words, map(module_of, words)):
-            spec = self.closure.spec(module)
-            if spec is None:
+            if not (spec := self.closure.spec(module)):
                 raise NotMade(f"the skeleton names {word}, and there is no such file")
-            texts = [text for (of, _), text in sorted(self.closure.found.items()) if of == module]
-            lines += self.block(module, spec.path, "text", texts)
+            lines += self.block(module, spec.path, "text", found, self.needed.found)
         return lines
 
     def types(self, *words: str) -> list[str]:
-        paths = ["crates/{}/src/{}.rt".format(*word.split("/", 1)) for word in words]
-        texts = {path: [text for (of, _), text in self.closure.types.items() if of == path] for path in paths}
-        return [line for path in paths for line in self.block(path, path, "rust", texts[path])]
+        paths = ("crates/{}/src/{}.rt".format(*word.split("/", 1)) for word in words)
+        texts, needed = self.closure.types, self.needed.types
+        return [line for path in paths for line in self.block(path, path, "rust", texts, needed)]
 
-    def block(self, home: str, path: str, language: str, texts: list[str]) -> list[str]:
-        if not texts:
+    def block(self, home: str, path: str, language: str, texts: Mapping[Any, str], needed: Container[Any]) -> list[str]:
+        """What the page needs of a file, or else all of it that no earlier page has."""
+        every = [it for it in texts if it[0] == home]
+        keys = [it for it in every if it in needed] or [it for it in every if it not in self.earlier]
+        if not keys:
             raise NotMade(f"the skeleton names {path}, of which nothing is cited")
-        self.placed.add(home)
-        return [f"`{path[len('crates/'):]}`", "", f"```{language}", "\n\n".join(texts), "```", ""]
+        self.placed.update(keys)
+        return [f"`{path[len('crates/'):]}`", "", f"```{language}", "\n\n".join(texts[it] for it in keys), "```", ""]
 
     def cited(self) -> list[str]:
         names = {module: ", ".join(f"`{it}`" for it in sorted(its)) for module, its in self.closure.outside.items()}
         return [f"- `{module}`: {names[module]}" for module in sorted(names)]
 
     def counts(self) -> list[str]:
-        (count, lines), types = self.closure.counts(), len(self.closure.types)
-        what = f"{count} definitions of {lines} lines without comments"
-        return [f"{what}, and {types} types and constants of the program."]
+        (count, lines), (all_count, all_lines) = self.closure.counts(self.placed), self.closure.counts(
+            self.closure.found
+        )
+        types = sum(key in self.placed for key in self.closure.types)
+        return [
+            f"On this page are {count} definitions of {lines} lines without comments, and {types} types and constants of the program.",
+            f"On both are {all_count} definitions of {all_lines} lines, and {len(self.closure.types)} types and constants.",
+        ]
 
-    def needs(self, command: str, *words: str) -> list[str]:
-        closure = Closure(self.repository)
-        for module, name in (word.split(":") for word in words):
-            closure.visit((module_of(module), name))
-        count, lines = closure.counts()
-        return [f"Of these {count} definitions of {lines} lines are what `{command}` needs."]
-
-    def text(self) -> str:
-        skeleton = self.repository.read(SKELETON).rstrip("\n").split("\n")
-        said = [line.strip("{}").split() if line.startswith("{{") else [] for line in skeleton]
-        for path, function in (words[1:] for words in said if words[:1] == ["theorem"]):
-            uses = Uses(ghost_uses(self.repository.read(path)))
-            for clause in CLAUSE.findall(self.contract(path, function)):
-                self.closure.follow(uses, clause)
-        parts = [getattr(self, words[0])(*words[1:]) if words else [line] for line, words in zip(skeleton, said)]
-        wanted = {home for home, _ in (*self.closure.found, *self.closure.types)}
-        inside = sorted(module for module in wanted if ".specs.inside." in module)
-        if inside:
-            raise NotMade("the theorem cites what is inside of a crate: " + ", ".join(inside))
-        if wanted - self.placed:
-            raise NotMade("the skeleton has no place for " + ", ".join(sorted(wanted - self.placed)))
-        return re.sub(r"\n{3,}", "\n\n", "\n".join(line for part in parts for line in part)).rstrip("\n") + "\n"
+    def text(self, skeleton: str) -> str:
+        made = list[str]()
+        for line in skeleton.rstrip("\n").split("\n"):
+            kind, *words = line.strip("{}").split() if line.startswith("{{") else [""]
+            made += getattr(self, kind)(*words) if kind else [line]
+        return re.sub(r"\n{3,}", "\n\n", "\n".join(made)).rstrip("\n") + "\n"
 
 
 def made(repository: Repository) -> dict[str, str]:
-    return {PAGE: Page(repository).text()}
+    closure, earlier, texts = Closure(repository), set[Placed](), dict[str, str]()
+    for place, skeleton in PAGES.items():
+        page = Page(repository, closure, earlier)
+        texts[place] = page.text(repository.read(skeleton))
+        earlier |= page.placed
+    left = {home for home, _ in {*closure.found, *closure.types} - earlier}
+    if inside := sorted(home for home, _ in closure.found if ".specs.inside." in home):
+        raise NotMade("the theorem cites what is inside of a crate: " + ", ".join(inside))
+    if left:
+        raise NotMade("no page has a place for " + ", ".join(sorted(left)))
+    return texts
