@@ -6,9 +6,9 @@ use Rattle.std.specs.Str.{bytes_eq}
 use Rattle.clap.specs.Words.{Row, Text, all_of, first_of}
 use Rattle.cut_command_line.specs.declared.options.limits.TheConstants.{LARGEST_PIECE, MOST_CHECKPOINTS, MOST_OF_EACH}
 use Rattle.cut_command_line.specs.declared.options.limits.TheConstants.{MOST_WORKERS}
-use Rattle.cut_command_line.specs.declared.line.Job.{Job}
-use Rattle.cut_command_line.specs.declared.line.Job.TheVariants.{Run, Check, Explain, Canonical, Status, Serve}
-use Rattle.cut_command_line.specs.declared.line.Job.TheVariants.{Ask, Migrate, Share, Join}
+use Rattle.cut_command_line.specs.declared.job.Job.{Job}
+use Rattle.cut_command_line.specs.declared.job.Job.TheVariants.{Run, Check, Explain, Canonical, Status, Serve}
+use Rattle.cut_command_line.specs.declared.job.Job.TheVariants.{Ask, Migrate, Share, Join}
 use Rattle.cut_command_line.specs.Line.{AsksForJob, GivesNumber, GivesShare}
 
 -- the commands
@@ -26,16 +26,16 @@ pub data Verb : Type 0 where
 
 -- the command of a job
 abbrev pub verb_of : Job → Verb
-verb_of (Run piece workers file progress plan) = to_run
+verb_of (Run options) = to_run
 verb_of (Check plan) = to_check
 verb_of (Explain plan) = to_explain
 verb_of (Canonical plan) = to_canonical
 verb_of (Status file) = to_status
-verb_of (Serve socket workers sessions studies folder) = to_serve
-verb_of (Ask socket plan) = to_ask
-verb_of (Migrate from to plan) = to_migrate
-verb_of (Share index shares file piece workers progress plan) = to_share
-verb_of (Join to from which plan) = to_join
+verb_of (Serve options) = to_serve
+verb_of (Ask options) = to_ask
+verb_of (Migrate options) = to_migrate
+verb_of (Share options) = to_share
+verb_of (Join options) = to_join
 
 -- the command of a name
 abbrev pub verb_in : Text → Verb
@@ -53,16 +53,16 @@ verb_in name =
 
 -- a job that the command of a name asks for is of that command
 pub is_of : (name : Text) (rows : List Row) (job : Job) → AsksForJob name rows job → verb_of job ≡ verb_in name
-is_of name rows (Run piece workers file progress plan) asks = sym (ap verb_in asks.0)
+is_of name rows (Run options) asks = sym (ap verb_in asks.0)
 is_of name rows (Check plan) asks = sym (ap verb_in asks.0)
 is_of name rows (Explain plan) asks = sym (ap verb_in asks.0)
 is_of name rows (Canonical plan) asks = sym (ap verb_in asks.0)
 is_of name rows (Status file) asks = sym (ap verb_in asks.0)
-is_of name rows (Serve socket workers sessions studies folder) asks = sym (ap verb_in asks.0)
-is_of name rows (Ask socket plan) asks = sym (ap verb_in asks.0)
-is_of name rows (Migrate from to plan) asks = sym (ap verb_in asks.0)
-is_of name rows (Share index shares file piece workers progress plan) asks = sym (ap verb_in asks.0)
-is_of name rows (Join to from which plan) asks = sym (ap verb_in asks.0)
+is_of name rows (Serve options) asks = sym (ap verb_in asks.0)
+is_of name rows (Ask options) asks = sym (ap verb_in asks.0)
+is_of name rows (Migrate options) asks = sym (ap verb_in asks.0)
+is_of name rows (Share options) asks = sym (ap verb_in asks.0)
+is_of name rows (Join options) asks = sym (ap verb_in asks.0)
 
 -- what is given with a command
 abbrev pub Values : Verb → List Row → Type 0
@@ -94,19 +94,25 @@ few_texts : (files : List (Bor Text)) → length files ≤ MOST_CHECKPOINTS → 
 few_texts files few = omega (arith, few, length-map files (λ s. s.now))
 
 values_of : (name : Text) (rows : List Row) (job : Job) → AsksForJob name rows job → Values (verb_of job) rows
-values_of name rows (Run piece workers file progress plan) asks = ((piece, asks.1), (workers, asks.2))
+values_of name rows (Run options) asks = ((options.piece, asks.1), (options.workers, asks.2))
 values_of name rows (Check plan) asks = tt
 values_of name rows (Explain plan) asks = tt
 values_of name rows (Canonical plan) asks = tt
 values_of name rows (Status file) asks = (file.now, asks.1)
-values_of name rows (Serve socket workers sessions studies folder) asks =
-    ((socket.now, asks.1), (workers, asks.2), (sessions, asks.3), (studies, asks.4))
-values_of name rows (Ask socket plan) asks = (socket.now, asks.1)
-values_of name rows (Migrate from to plan) asks = ((from.now, asks.1), (to.now, asks.2))
-values_of name rows (Share index shares file piece workers progress plan) asks =
-    ((index, (shares, asks.1)), (file.now, asks.2), (piece, asks.3), (workers, asks.4))
-values_of name rows (Join to from which plan) asks =
-    ((to.now, asks.1), (map (λ s. s.now) from.items, (asks.2, few_texts from.items asks.3)))
+values_of name rows (Serve options) asks =
+    ((options.socket.now, asks.1), (options.workers, asks.2), (options.sessions, asks.3), (options.studies, asks.4))
+values_of name rows (Ask options) asks = (options.socket.now, asks.1)
+values_of name rows (Migrate options) asks = ((options.old.now, asks.1), (options.new.now, asks.2))
+values_of name rows (Share options) asks = (
+  (options.index, (options.shares, asks.1)),
+  (options.file.now, asks.2),
+  (options.piece, asks.3),
+  (options.workers, asks.4),
+)
+values_of name rows (Join options) asks = (
+  (options.new.now, asks.1),
+  (map (λ s. s.now) options.old.items, (asks.2, few_texts options.old.items asks.3)),
+)
 
 -- a job that a command asks for has what is given with it
 pub values : (name : Text) (rows : List Row) (job : Job) → AsksForJob name rows job → Values (verb_in name) rows

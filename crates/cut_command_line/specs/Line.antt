@@ -10,9 +10,9 @@ use Rattle.clap.specs.Words.{IsAmong, all_of, first_of, Row, Text, fault_of, one
 use Rattle.clap.specs.declared.error.kind.ErrorKind.{ErrorKind}
 use Rattle.clap.specs.declared.error.kind.ErrorKind.TheVariants.{DisplayHelp, DisplayVersion, OutOfMemory}
 use Rattle.clap.specs.declared.error.kind.ErrorKind.TheVariants.{ValueValidation}
-use Rattle.cut_command_line.specs.declared.line.Job.{Job}
-use Rattle.cut_command_line.specs.declared.line.Job.TheVariants.{Run, Check, Explain, Canonical, Status, Serve}
-use Rattle.cut_command_line.specs.declared.line.Job.TheVariants.{Ask, Migrate, Share, Join}
+use Rattle.cut_command_line.specs.declared.job.Job.{Job}
+use Rattle.cut_command_line.specs.declared.job.Job.TheVariants.{Run, Check, Explain, Canonical, Status, Serve}
+use Rattle.cut_command_line.specs.declared.job.Job.TheVariants.{Ask, Migrate, Share, Join}
 
 -- a text is a number from 1 to a greatest one, in decimal
 pub record IsNumberIn (most : ℕ) (text : Text) (n : ℕ) : Type 0 where
@@ -55,34 +55,37 @@ GivesPlan rows plan = first_of (codes "plan") rows ≡ option_map (λ s. s.now) 
 
 -- a subcommand, by its name and its matches, asks for a job
 abbrev pub AsksForJob : Text → List Row → Job → Type 0
-AsksForJob name rows (Run piece workers file progress plan) =
-    (name ≡ codes "run") × GivesNumber (codes "piece") LARGEST_PIECE rows piece
-    × GivesNumber (codes "workers") MOST_WORKERS rows workers
-    × (first_of (codes "checkpoint") rows ≡ option_map (λ s. s.now) file) × GivesFlag (codes "progress") rows progress
-    × GivesPlan rows plan
+AsksForJob name rows (Run options) =
+    (name ≡ codes "run") × GivesNumber (codes "piece") LARGEST_PIECE rows options.piece
+    × GivesNumber (codes "workers") MOST_WORKERS rows options.workers
+    × (first_of (codes "checkpoint") rows ≡ option_map (λ s. s.now) options.checkpoint)
+    × GivesFlag (codes "progress") rows options.progress × GivesPlan rows options.plan
 AsksForJob name rows (Check plan) = (name ≡ codes "check") × GivesPlan rows plan
 AsksForJob name rows (Explain plan) = (name ≡ codes "explain") × GivesPlan rows plan
 AsksForJob name rows (Canonical plan) = (name ≡ codes "canonical") × GivesPlan rows plan
 AsksForJob name rows (Status file) = (name ≡ codes "status") × (first_of (codes "file") rows ≡ Some file.now)
-AsksForJob name rows (Serve socket workers sessions studies folder) =
-    (name ≡ codes "serve") × (first_of (codes "socket") rows ≡ Some socket.now)
-    × GivesNumber (codes "workers") MOST_OF_EACH rows workers
-    × GivesNumber (codes "sessions") MOST_OF_EACH rows sessions
-    × GivesNumber (codes "studies") MOST_OF_EACH rows studies
-    × (first_of (codes "dir") rows ≡ option_map (λ s. s.now) folder)
-AsksForJob name rows (Ask socket plan) = (name ≡ codes "ask") × (first_of (codes "socket") rows ≡ Some socket.now)
-    × GivesPlan rows plan
-AsksForJob name rows (Migrate from to plan) =
-    (name ≡ codes "migrate") × (first_of (codes "old") rows ≡ Some from.now)
-    × (first_of (codes "new") rows ≡ Some to.now) × GivesPlan rows plan
-AsksForJob name rows (Share index shares file piece workers progress plan) =
-    (name ≡ codes "share") × GivesShare rows index shares × (first_of (codes "file") rows ≡ Some file.now)
-    × GivesNumber (codes "piece") LARGEST_PIECE rows piece × GivesNumber (codes "workers") MOST_WORKERS rows workers
-    × GivesFlag (codes "progress") rows progress × GivesPlan rows plan
-AsksForJob name rows (Join to from which plan) =
-    (name ≡ codes "join") × (first_of (codes "new") rows ≡ Some to.now)
-    × (all_of (codes "old") rows ≡ Some (map (λ s. s.now) from.items)) × (length from.items ≤ MOST_CHECKPOINTS)
-    × GivesFlag (codes "which") rows which × GivesPlan rows plan
+AsksForJob name rows (Serve options) =
+    (name ≡ codes "serve") × (first_of (codes "socket") rows ≡ Some options.socket.now)
+    × GivesNumber (codes "workers") MOST_OF_EACH rows options.workers
+    × GivesNumber (codes "sessions") MOST_OF_EACH rows options.sessions
+    × GivesNumber (codes "studies") MOST_OF_EACH rows options.studies
+    × (first_of (codes "dir") rows ≡ option_map (λ s. s.now) options.folder)
+AsksForJob name rows (Ask options) =
+    (name ≡ codes "ask") × (first_of (codes "socket") rows ≡ Some options.socket.now) × GivesPlan rows options.plan
+AsksForJob name rows (Migrate options) =
+    (name ≡ codes "migrate") × (first_of (codes "old") rows ≡ Some options.old.now)
+    × (first_of (codes "new") rows ≡ Some options.new.now) × GivesPlan rows options.plan
+AsksForJob name rows (Share options) =
+    (name ≡ codes "share") × GivesShare rows options.index options.shares
+    × (first_of (codes "file") rows ≡ Some options.file.now)
+    × GivesNumber (codes "piece") LARGEST_PIECE rows options.piece
+    × GivesNumber (codes "workers") MOST_WORKERS rows options.workers
+    × GivesFlag (codes "progress") rows options.progress × GivesPlan rows options.plan
+AsksForJob name rows (Join options) =
+    (name ≡ codes "join") × (first_of (codes "new") rows ≡ Some options.new.now)
+    × (all_of (codes "old") rows ≡ Some (map (λ s. s.now) options.old.items))
+    × (length options.old.items ≤ MOST_CHECKPOINTS) × GivesFlag (codes "which") rows options.which
+    × GivesPlan rows options.plan
 
 -- the job that a command line names
 abbrev pub NamesJob : List Text → Job → Type 0
@@ -111,18 +114,18 @@ EndsLine words status text =
 
 -- the pieces of a job have some trials, and it has some of each that it is to have, and no more than the options allow
 abbrev pub IsSizedJob : Job → Type 0
-IsSizedJob (Run piece workers file progress plan) =
-    (1 ≤ piece) × (piece ≤ LARGEST_PIECE) × (1 ≤ workers) × (workers ≤ MOST_WORKERS)
+IsSizedJob (Run options) =
+    (1 ≤ options.piece) × (options.piece ≤ LARGEST_PIECE) × (1 ≤ options.workers) × (options.workers ≤ MOST_WORKERS)
 IsSizedJob (Check plan) = ⊤
 IsSizedJob (Explain plan) = ⊤
 IsSizedJob (Canonical plan) = ⊤
 IsSizedJob (Status file) = ⊤
-IsSizedJob (Serve socket workers sessions studies folder) =
-    (1 ≤ workers) × (workers ≤ MOST_OF_EACH) × (1 ≤ sessions) × (sessions ≤ MOST_OF_EACH) × (1 ≤ studies)
-    × (studies ≤ MOST_OF_EACH)
-IsSizedJob (Ask socket plan) = ⊤
-IsSizedJob (Migrate from to plan) = ⊤
-IsSizedJob (Share index shares file piece workers progress plan) =
-    (1 ≤ index) × (index ≤ shares) × (shares ≤ MOST_SHARES) × (1 ≤ piece) × (piece ≤ LARGEST_PIECE) × (1 ≤ workers)
-    × (workers ≤ MOST_WORKERS)
-IsSizedJob (Join to from which plan) = length from.items ≤ MOST_CHECKPOINTS
+IsSizedJob (Serve options) =
+    (1 ≤ options.workers) × (options.workers ≤ MOST_OF_EACH) × (1 ≤ options.sessions)
+    × (options.sessions ≤ MOST_OF_EACH) × (1 ≤ options.studies) × (options.studies ≤ MOST_OF_EACH)
+IsSizedJob (Ask options) = ⊤
+IsSizedJob (Migrate options) = ⊤
+IsSizedJob (Share options) =
+    (1 ≤ options.index) × (options.index ≤ options.shares) × (options.shares ≤ MOST_SHARES) × (1 ≤ options.piece)
+    × (options.piece ≤ LARGEST_PIECE) × (1 ≤ options.workers) × (options.workers ≤ MOST_WORKERS)
+IsSizedJob (Join options) = length options.old.items ≤ MOST_CHECKPOINTS

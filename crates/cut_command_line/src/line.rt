@@ -4,8 +4,9 @@ ghost use Rattle.cut_command_line.specs.options.Options.{program_app};
 ghost use Rattle.cut_command_line.specs.Line.{EndsLine, GivesFlag, GivesNumber, GivesPlan, IsSizedJob};
 ghost use Rattle.cut_command_line.specs.inside.Line.{GivesJob, IsJobOf};
 ghost use Rattle.cut_command_line.specs.Line.{NamesJob, status_of_kind};
-ghost use Rattle.cut_command_line.specs.declared.line.Job.{Job};
+ghost use Rattle.cut_command_line.specs.declared.job.Job.{Job};
 
+use crate::job::{AskOptions, Job, MigrateOptions, RunOptions, ServeOptions};
 use crate::machines::{TOO_MANY_FILES, WRONG_SHARE, join_job, share_job};
 use crate::options::{
     JOIN_USAGE, LARGEST_PIECE, MOST_OF_EACH, MOST_WORKERS, SHARE_USAGE, program_commands,
@@ -14,101 +15,6 @@ use clap::error::ErrorKind;
 use clap::{ArgMatches, Command, Error};
 use std::alloc::{AllocError, Global};
 use std::convert::AsStr;
-
-/// A command of the program, with its values.
-#[derive(Debug, Drop)]
-pub enum Job<'a> {
-    /// Read a plan and print its table.
-    Run {
-        /// How many trials the pieces have that the study is cut into, the last of a cell fewer.
-        piece: u32,
-        /// How many threads work on the study.
-        workers: u32,
-        /// The file that the study is kept in and goes on from, if there is one.
-        checkpoint: Option<&'a str>,
-        /// Whether lines on standard error say how many trials are done.
-        progress: bool,
-        /// The file that the plan is read from, if it is not the program's input.
-        plan: Option<&'a str>,
-    },
-    /// Read a plan and print how many cells and trials it has, and the quorum of its processes.
-    Check {
-        /// The file that the plan is read from, if it is not the program's input.
-        plan: Option<&'a str>,
-    },
-    /// Read a plan and say in words what is right or wrong with it.
-    Explain {
-        /// The file that the plan is read from, if it is not the program's input.
-        plan: Option<&'a str>,
-    },
-    /// Read a plan and print its canonical text.
-    Canonical {
-        /// The file that the plan is read from, if it is not the program's input.
-        plan: Option<&'a str>,
-    },
-    /// Print what a checkpoint holds.
-    Status {
-        /// The file of the checkpoint, which is only read.
-        file: &'a str,
-    },
-    /// Serve clients at a socket, and print how many trials were accepted.
-    Serve {
-        /// The path of the server's socket.
-        socket: &'a str,
-        /// How many threads work on its studies, from 1 to 64.
-        workers: u32,
-        /// How many connections it takes, from 1 to 64.
-        sessions: u32,
-        /// For how many studies it has room, from 1 to 64.
-        studies: u32,
-        /// The folder that the studies are kept in, if there is one.
-        folder: Option<&'a str>,
-    },
-    /// Read a plan and print the table that a server has for it.
-    Ask {
-        /// The path of the server's socket.
-        socket: &'a str,
-        /// The file that the plan is read from, if it is not the program's input.
-        plan: Option<&'a str>,
-    },
-    /// Read a plan of version 1, move its study to a new checkpoint of version 2, and print how many slips it has.
-    Migrate {
-        /// The file that the study is kept in.
-        old: &'a str,
-        /// The file that it is moved to, which holds no study.
-        new: &'a str,
-        /// The file that the plan is read from, if it is not the program's input.
-        plan: Option<&'a str>,
-    },
-    /// Read a plan, run a share of its study, and print how many trials the share has.
-    Share {
-        /// Which share it is, from 1.
-        index: u32,
-        /// How many shares there are, at most 100,000.
-        shares: u32,
-        /// The file that the share is kept in and goes on from.
-        file: &'a str,
-        /// How many trials the blocks have that the cells are cut into, the last of a cell fewer.
-        piece: u32,
-        /// How many threads work on the share.
-        workers: u32,
-        /// Whether lines on standard error say how many trials are done.
-        progress: bool,
-        /// The file that the plan is read from, if it is not the program's input.
-        plan: Option<&'a str>,
-    },
-    /// Read a plan, join the checkpoints of its study in a new one, and print how many slips it has.
-    Join {
-        /// The file of the new checkpoint, which holds no study.
-        new: &'a str,
-        /// The files that are joined, which are only read.
-        old: Vec<&'a str>,
-        /// Whether a line on standard error says which of them is refused, if one is.
-        which: bool,
-        /// The file that the plan is read from, if it is not the program's input.
-        plan: Option<&'a str>,
-    },
-}
 
 /// A command line that names no job: the status with which the program ends, and the text that it
 /// prints, on standard output at status 0, as for help, and else on standard error.
@@ -220,13 +126,13 @@ fn run_job<'a>(given: &ArgMatches<'a>) -> Option<Job<'a>>
 {
     let piece = number_given(given, "piece", LARGEST_PIECE)?;
     let workers = number_given(given, "workers", MOST_WORKERS)?;
-    Some(Job::Run {
+    Some(Job::Run(RunOptions {
         piece,
         workers,
         checkpoint: given.get_str("checkpoint"),
         progress: flag_given(given, "progress"),
         plan: plan_given(given),
-    })
+    }))
 }
 
 /// The report on a checkpoint that the matches of `status` give.
@@ -247,13 +153,13 @@ fn serve_job<'a>(given: &ArgMatches<'a>) -> Option<Job<'a>>
     let workers = number_given(given, "workers", MOST_OF_EACH)?;
     let sessions = number_given(given, "sessions", MOST_OF_EACH)?;
     let studies = number_given(given, "studies", MOST_OF_EACH)?;
-    Some(Job::Serve {
+    Some(Job::Serve(ServeOptions {
         socket,
         workers,
         sessions,
         studies,
         folder: given.get_str("dir"),
-    })
+    }))
 }
 
 /// The question that the matches of `ask` give.
@@ -262,10 +168,10 @@ fn ask_job<'a>(given: &ArgMatches<'a>) -> Option<Job<'a>>
     ensures sized { IfSome result (λ job. IsSizedJob job) }
 {
     let socket = given.get_str("socket")?;
-    Some(Job::Ask {
+    Some(Job::Ask(AskOptions {
         socket,
         plan: plan_given(given),
-    })
+    }))
 }
 
 /// The migration that the matches of `migrate` give.
@@ -275,11 +181,11 @@ fn migrate_job<'a>(given: &ArgMatches<'a>) -> Option<Job<'a>>
 {
     let old = given.get_str("old")?;
     let new = given.get_str("new")?;
-    Some(Job::Migrate {
+    Some(Job::Migrate(MigrateOptions {
         old,
         new,
         plan: plan_given(given),
-    })
+    }))
 }
 
 /// The number, from 1 to a greatest one, that the matches give for an option.

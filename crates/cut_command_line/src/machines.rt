@@ -5,7 +5,7 @@ ghost use Rattle.clap.specs.Words.{found_of, rows_of};
 ghost use Rattle.cut_command_line.specs.Line.{GivesShare, IsDigitsIn, IsSizedJob};
 ghost use Rattle.cut_command_line.specs.inside.Line.{GivesJob};
 
-use crate::Job;
+use crate::job::{Job, JoinOptions, ShareOptions};
 use crate::line::{flag_given, number_given, plan_given};
 use crate::options::{LARGEST_PIECE, MOST_CHECKPOINTS, MOST_SHARES, MOST_WORKERS};
 use clap::ArgMatches;
@@ -35,7 +35,7 @@ pub(crate) fn share_job<'a>(given: &ArgMatches<'a>) -> Option<Job<'a>>
     let file = given.get_str("file")?;
     let piece = number_given(given, "piece", LARGEST_PIECE)?;
     let workers = number_given(given, "workers", MOST_WORKERS)?;
-    Some(Job::Share {
+    Some(Job::Share(ShareOptions {
         index: share.index,
         shares: share.shares,
         file,
@@ -43,7 +43,7 @@ pub(crate) fn share_job<'a>(given: &ArgMatches<'a>) -> Option<Job<'a>>
         workers,
         progress: flag_given(given, "progress"),
         plan: plan_given(given),
-    })
+    }))
 }
 
 /// The join that the matches of `join` give.
@@ -64,12 +64,12 @@ pub(crate) fn join_job<'a>(
         return Ok(None);
     }
     let old = Vec::from_slice(alloc, old)?;
-    Ok(Some(Job::Join {
+    Ok(Some(Job::Join(JoinOptions {
         new,
         old,
         which: flag_given(given, "which"),
         plan: plan_given(given),
-    }))
+    })))
 }
 
 /// The number of the share that the matches give, and how many there are.

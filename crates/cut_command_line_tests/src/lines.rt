@@ -6,37 +6,37 @@ use std::test::Fail;
 
 /// Command lines, and below each the job that it names, as a program would write it for its developers.
 const JOBS: &str = r#"cutlab run
-Run { piece: 16, workers: 1, checkpoint: None, progress: false, plan: None }
+Run(RunOptions { piece: 16, workers: 1, checkpoint: None, progress: false, plan: None })
 
 cutlab run --piece 1
-Run { piece: 1, workers: 1, checkpoint: None, progress: false, plan: None }
+Run(RunOptions { piece: 1, workers: 1, checkpoint: None, progress: false, plan: None })
 
 cutlab run --piece=7
-Run { piece: 7, workers: 1, checkpoint: None, progress: false, plan: None }
+Run(RunOptions { piece: 7, workers: 1, checkpoint: None, progress: false, plan: None })
 
 cutlab run --piece +20
-Run { piece: 20, workers: 1, checkpoint: None, progress: false, plan: None }
+Run(RunOptions { piece: 20, workers: 1, checkpoint: None, progress: false, plan: None })
 
 cutlab run --piece 1000000
-Run { piece: 1000000, workers: 1, checkpoint: None, progress: false, plan: None }
+Run(RunOptions { piece: 1000000, workers: 1, checkpoint: None, progress: false, plan: None })
 
 cutlab run --workers 1
-Run { piece: 16, workers: 1, checkpoint: None, progress: false, plan: None }
+Run(RunOptions { piece: 16, workers: 1, checkpoint: None, progress: false, plan: None })
 
 cutlab run --workers 64
-Run { piece: 16, workers: 64, checkpoint: None, progress: false, plan: None }
+Run(RunOptions { piece: 16, workers: 64, checkpoint: None, progress: false, plan: None })
 
 cutlab run --workers=3 --piece 2
-Run { piece: 2, workers: 3, checkpoint: None, progress: false, plan: None }
+Run(RunOptions { piece: 2, workers: 3, checkpoint: None, progress: false, plan: None })
 
 cutlab run --checkpoint a.cut
-Run { piece: 16, workers: 1, checkpoint: Some("a.cut"), progress: false, plan: None }
+Run(RunOptions { piece: 16, workers: 1, checkpoint: Some("a.cut"), progress: false, plan: None })
 
 cutlab run --checkpoint=
-Run { piece: 16, workers: 1, checkpoint: Some(""), progress: false, plan: None }
+Run(RunOptions { piece: 16, workers: 1, checkpoint: Some(""), progress: false, plan: None })
 
 cutlab run --progress --workers 2
-Run { piece: 16, workers: 2, checkpoint: None, progress: true, plan: None }
+Run(RunOptions { piece: 16, workers: 2, checkpoint: None, progress: true, plan: None })
 
 cutlab check
 Check { plan: None }
@@ -48,13 +48,13 @@ cutlab canonical
 Canonical { plan: None }
 
 cutlab run plan.json
-Run { piece: 16, workers: 1, checkpoint: None, progress: false, plan: Some("plan.json") }
+Run(RunOptions { piece: 16, workers: 1, checkpoint: None, progress: false, plan: Some("plan.json") })
 
 cutlab run plan.json --checkpoint a.cut
-Run { piece: 16, workers: 1, checkpoint: Some("a.cut"), progress: false, plan: Some("plan.json") }
+Run(RunOptions { piece: 16, workers: 1, checkpoint: Some("a.cut"), progress: false, plan: Some("plan.json") })
 
 cutlab run -- --plan
-Run { piece: 16, workers: 1, checkpoint: None, progress: false, plan: Some("--plan") }
+Run(RunOptions { piece: 16, workers: 1, checkpoint: None, progress: false, plan: Some("--plan") })
 
 cutlab check plan.json
 Check { plan: Some("plan.json") }
@@ -66,43 +66,43 @@ cutlab canonical plan.json
 Canonical { plan: Some("plan.json") }
 
 cutlab ask --plan plan.json a.sock
-Ask { socket: "a.sock", plan: Some("plan.json") }
+Ask(AskOptions { socket: "a.sock", plan: Some("plan.json") })
 
 cutlab migrate a.cut b.cut --plan plan.json
-Migrate { old: "a.cut", new: "b.cut", plan: Some("plan.json") }
+Migrate(MigrateOptions { old: "a.cut", new: "b.cut", plan: Some("plan.json") })
 
 cutlab share 1/1 --plan=plan.json a.cut
-Share { index: 1, shares: 1, file: "a.cut", piece: 16, workers: 1, progress: false, plan: Some("plan.json") }
+Share(ShareOptions { index: 1, shares: 1, file: "a.cut", piece: 16, workers: 1, progress: false, plan: Some("plan.json") })
 
 cutlab status a.cut
 Status { file: "a.cut" }
 
 cutlab ask a.sock
-Ask { socket: "a.sock", plan: None }
+Ask(AskOptions { socket: "a.sock", plan: None })
 
 cutlab migrate a.cut b.cut
-Migrate { old: "a.cut", new: "b.cut", plan: None }
+Migrate(MigrateOptions { old: "a.cut", new: "b.cut", plan: None })
 
 cutlab serve a.sock --workers=64 --studies=3 --sessions=1 --dir=kept
-Serve { socket: "a.sock", workers: 64, sessions: 1, studies: 3, folder: Some("kept") }
+Serve(ServeOptions { socket: "a.sock", workers: 64, sessions: 1, studies: 3, folder: Some("kept") })
 
 cutlab share 1/1 a.cut
-Share { index: 1, shares: 1, file: "a.cut", piece: 16, workers: 1, progress: false, plan: None }
+Share(ShareOptions { index: 1, shares: 1, file: "a.cut", piece: 16, workers: 1, progress: false, plan: None })
 
 cutlab share 3/8 a.cut --progress
-Share { index: 3, shares: 8, file: "a.cut", piece: 16, workers: 1, progress: true, plan: None }
+Share(ShareOptions { index: 3, shares: 8, file: "a.cut", piece: 16, workers: 1, progress: true, plan: None })
 
 cutlab share --piece 2 100000/100000 --workers=64 a.cut
-Share { index: 100000, shares: 100000, file: "a.cut", piece: 2, workers: 64, progress: false, plan: None }
+Share(ShareOptions { index: 100000, shares: 100000, file: "a.cut", piece: 2, workers: 64, progress: false, plan: None })
 
 cutlab join new.cut a.cut b.cut
-Join { new: "new.cut", old: ["a.cut", "b.cut"], which: false, plan: None }
+Join(JoinOptions { new: "new.cut", old: ["a.cut", "b.cut"], which: false, plan: None })
 
 cutlab join --which new.cut a.cut
-Join { new: "new.cut", old: ["a.cut"], which: true, plan: None }
+Join(JoinOptions { new: "new.cut", old: ["a.cut"], which: true, plan: None })
 
 cutlab join new.cut a.cut --which b.cut --plan plan.json c.cut
-Join { new: "new.cut", old: ["a.cut", "b.cut", "c.cut"], which: true, plan: Some("plan.json") }"#;
+Join(JoinOptions { new: "new.cut", old: ["a.cut", "b.cut", "c.cut"], which: true, plan: Some("plan.json") })"#;
 
 /// The words of a line, between blanks.
 fn words_of<'a>(alloc: Global, line: &'a str) -> Result<Vec<&'a str>, AllocError> {
@@ -134,7 +134,7 @@ fn jobs_are_named(rt: HostRuntime) -> Result<(), Fail> {
 /// How many files are joined by these words, none where they name another job or none.
 fn files_joined(alloc: Global, words: &[&str]) -> usize {
     match parse_line(alloc, words) {
-        Ok(Job::Join { old, .. }) => old.len(),
+        Ok(Job::Join(options)) => options.old.len(),
         _ => 0,
     }
 }

@@ -1,7 +1,7 @@
 -- What only the crate's own clauses and proofs cite, beside specs/Line.antt.
 use Rattle.std.specs.Prelude.{List, Option, Some, None}
 use Rattle.clap.specs.Words.{Row, Text}
-use Rattle.cut_command_line.specs.declared.line.Job.{Job}
+use Rattle.cut_command_line.specs.declared.job.Job.{Job}
 use Rattle.cut_command_line.specs.Line.{AsksForJob}
 
 -- the matches of a subcommand give a job of it, or none

@@ -5,7 +5,7 @@ use Rattle.clap.specs.Words.{subcommand_of, subcommand_rows_of}
 use Rattle.clap.proofs.OnLiterals.{clap_on_literals}
 use Rattle.clap.specs.declared.error.kind.ErrorKind.{ErrorKind}
 use Rattle.clap.specs.declared.error.kind.ErrorKind.TheVariants.{ValueValidation, OutOfMemory}
-use Rattle.cut_command_line.specs.declared.line.Job.{Job}
+use Rattle.cut_command_line.specs.declared.job.Job.{Job}
 use Rattle.cut_command_line.specs.options.Options.{program_app}
 use Rattle.cut_command_line.specs.Line.{status_of_kind, IsAsked, NamesJob}
 use Rattle.cut_command_line.specs.inside.Line.{IsJobOf}

@@ -1,7 +1,7 @@
 use Rattle.std.proofs.Common.{◌∙◌, List, Option, refl, sym, subst, codes}
 use Rattle.clap.specs.Words.{Row, found_of, rows_of}
 use Rattle.clap.proofs.WalkLemmas.{first_value-rows}
-use Rattle.cut_command_line.specs.declared.line.Job.{Job}
+use Rattle.cut_command_line.specs.declared.job.Job.{Job}
 use Rattle.cut_command_line.specs.inside.Line.{GivesJob}
 use Rattle.cut_command_line.proofs.Commands.{values}
 use Rattle.cut_command_line.proofs.machines.share_job.Goals as goal
