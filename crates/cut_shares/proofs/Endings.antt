@@ -1,17 +1,14 @@
 -- How a run of a share ends, by how its batches do.
 use Rattle.std.proofs.Common.{◌≡◌, ◌∙◌, ◌≤◌, ◌<◌, ◌++◌, ◌==◌, ◌&&◌, ℕ, Bool, true, false, not}
-use Rattle.std.proofs.Common.{cond, List, [], ◌∷◌, Some, None, Ok, Err, filter, length, nat_lt, refl, sym, ap, subst, arith}
+use Rattle.std.proofs.Common.{cond, List, [], ◌∷◌, Some, None, Ok, Err, filter, length, nat_lt, refl, sym, ap, arith}
 use Rattle.std.specs.Prelude.{IsTrue, All, Result, count_by}
 use Rattle.std.specs.List.{range_with_len}
 use Rattle.std.proofs.lemmas.Bool.{and_parts, ltb-true}
-use Rattle.std.proofs.lemmas.List.{map-append}
-use Rattle.std.proofs.lemmas.List.Elements.{All-append, All-nil, All-head, All-tail}
 use Rattle.std.proofs.lemmas.List.Folds.{list_any-append}
 use Rattle.std.proofs.lemmas.List.FromFn.{get_or-map-range_with_len}
 use Rattle.cut_lists.proofs.Counts.{list_any-count_by}
 use Rattle.cut_lists.proofs.Maps.{count_by-map}
 use Rattle.cut_lists.proofs.Parts.{count_first}
-use Rattle.cut_lists.proofs.Ranges.{All-range_with_len}
 use Rattle.cut_lists.proofs.Ranks.{count_by_none}
 use Rattle.cut_plan.specs.Cells.{trial_count}
 use Rattle.cut_plan.specs.Values.{Values}
@@ -23,7 +20,7 @@ use Rattle.cut_ledger.specs.Contents.{has, is_in_base, over_base}
 use Rattle.cut_ledger.specs.Gaps.{gaps_of}
 use Rattle.cut_ledger.specs.Laws.{GapsCover}
 use Rattle.cut_ledger.specs.Slips.{AreGood}
-use Rattle.cut_ledger.specs.World.{pieces_of_slips, times_in}
+use Rattle.cut_ledger.specs.World.{times_in}
 use Rattle.cut_ledger.proofs.FillLemmas.{count_trials}
 use Rattle.cut_ledger.proofs.Law.{one_if-le}
 use Rattle.cut_journal.specs.Journal.{JournalValue}
@@ -35,11 +32,10 @@ use Rattle.cut_shares.specs.share.inside.Batches.{EndsPieces, IsUpTo}
 use Rattle.cut_shares.specs.share.inside.Pieces.{IsSharePiece, own_times}
 use Rattle.cut_shares.specs.share.Running.{AreOfShare, CanRun, EndsShare, is_lacking}
 use Rattle.cut_shares.specs.share.inside.Running.{IsFaultOfOpening, slips_at}
-use Rattle.cut_shares.specs.share.Share.{IsShareSlip, has_block, is_in_share, trials_of_share}
+use Rattle.cut_shares.specs.share.Share.{has_block, is_in_share, trials_of_share}
 use Rattle.cut_shares.specs.share.Blocks.{block_of}
 use Rattle.cut_shares.proofs.Appends.{pieces_back, share_slips}
 use Rattle.cut_shares.proofs.Batches.{some_time}
-use Rattle.cut_shares.proofs.PieceFacts.{in_trials}
 use Rattle.cut_shares.proofs.Turns.{once_in_range}
 
 and_true : (b : Bool) → b && true ≡ b

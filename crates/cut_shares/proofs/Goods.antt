@@ -1,34 +1,25 @@
 -- Good slips: each is sound by itself, and no trial is in two of them, in whatever order they stand.
-use Rattle.std.proofs.Common.{◌≡◌, ◌∙◌, ℕ, zero, suc, ◌+◌, ◌*◌, ◌/◌, ◌<◌, ◌≤◌, inl, inr, true, false}
-use Rattle.std.proofs.Common.{IsTrue, List, [], ◌∷◌, ◌++◌, All, length, take, drop, cond, get_or, sym, ap}
-use Rattle.std.proofs.Common.{subst, arith, take-append-drop}
+use Rattle.std.proofs.Common.{◌≡◌, ◌∙◌, ℕ, zero, suc, ◌+◌, ◌-◌, ◌*◌, ◌/◌, ◌<◌, ◌≤◌, inl, inr, true, false, List, [], ◌∷◌, ◌++◌}
+use Rattle.std.proofs.Common.{length, take, drop, cond, get_or, sym, ap, subst, arith, take-append-drop}
 use Rattle.std.proofs.Math.Seq.{drop-cons, take-suc}
-use Rattle.std.specs.List.Sorted.{IsNonDecreasingBy, IsPermutation}
-use Rattle.std.proofs.lemmas.Bool.{cases_Bool, cases_lt, or_cases}
-use Rattle.std.proofs.lemmas.List.{get_or-take, get_or_default, length-take, take_all}
-use Rattle.std.proofs.lemmas.List.Elements.{All-tail}
-use Rattle.std.proofs.lemmas.List.Folds.{list_any_at, list_any_none}
-use Rattle.std.proofs.lemmas.List.Sorted.{All-permutation, IsPermutation-map, sum_by-IsPermutation}
-use Rattle.cut_lists.proofs.Intervals.{within_is, within_above}
+use Rattle.std.proofs.lemmas.Bool.{cases_lt}
+use Rattle.std.proofs.lemmas.Bool.Decides.{nat_tests}
+use Rattle.std.proofs.lemmas.List.{get_or-take, length-take, length_push, take_all, take_more}
+use Rattle.std.proofs.lemmas.List.Elements.{All-cons, All-from_get_or, All-nil, All-push, All-weaker}
+use Rattle.std.proofs.lemmas.List.Folds.{list_any_at}
+use Rattle.std.proofs.lemmas.List.Sorted.{All-permutation, IsNonDecreasingBy-push, IsNonDecreasingBy-short}
+use Rattle.std.proofs.lemmas.List.Sorted.{IsPermutation-cons, IsPermutation-map, IsPermutation-refl, IsPermutation-sym}
+use Rattle.std.proofs.lemmas.List.Sorted.{IsPermutation-append_left, IsPermutation-to_front, IsPermutation-trans, length_permutation}
+use Rattle.std.proofs.lemmas.List.Sorted.{sum_by-IsPermutation}
 use Rattle.cut_lists.proofs.Ranges.{none_passing}
-use Rattle.cut_plan.specs.Cells.{trial_count}
-use Rattle.cut_plan.specs.Plan.{IsPlan}
-use Rattle.cut_plan.specs.Values.{Values}
-use Rattle.cut_outcome.specs.declared.piece.Piece.{Piece}
-use Rattle.cut_outcome.specs.Outcome.{cell_at, one_if}
-use Rattle.cut_outcome.specs.Possible.{ArePossible}
-use Rattle.cut_outcome.specs.Sum.{is_piece}
 use Rattle.cut_outcome.proofs.Sum.{few_in}
-use Rattle.cut_ledger.specs.declared.slip.Slip.{Slip}
-use Rattle.cut_ledger.specs.Contents.{is_in, is_in_base}
-use Rattle.cut_ledger.specs.Slips.{AreGood, IsGood}
-use Rattle.cut_ledger.specs.World.{pieces_of_slips, times_in}
-use Rattle.cut_ledger.proofs.CellLemmas.{few_rings, piece_facts}
-use Rattle.cut_ledger.proofs.Law.{piece_within, times_more, times_once}
+use Rattle.cut_ledger.proofs.CellLemmas.{few_rings, piece_in_cell}
+use Rattle.cut_ledger.proofs.Law.{times_more, times_once}
 use Rattle.cut_ledger.proofs.TrueSlips.{apart_good}
-use Rattle.cut_shares.specs.join.inside.Merging.{AreAscending, IsSmall}
-use Rattle.cut_shares.proofs.Merges.{ComesAfter}
-use Rattle.cut_shares.proofs.Chains.{not_both}
+use Rattle.cut_shares.proofs.Steps.{ComesAfter, Precedes, joined_more}
+use Rattle.cut_shares.proofs.Words.{All, AreAscending, AreGood, ArePossible, IsGood, IsNonDecreasingBy, IsPermutation}
+use Rattle.cut_shares.proofs.Words.{IsPlan, IsSmall, IsTrue, Piece, Slip, Values, cell_at, is_in, is_in_base, is_piece, joined}
+use Rattle.cut_shares.proofs.Words.{each_number, pieces_of_slips, times_in, with_slip}
 
 -- ---- sound slips that are apart
 
@@ -41,50 +32,31 @@ pub record AreSound (v : Values) (ss : List Slip) : Type 0 where
   pub each : All (IsSound v) ss
   pub apart : (t : ℕ) → times_in (pieces_of_slips ss) t ≤ 1
 
--- their trials are of the plan
-pub base_within : (v : Values) (ss : List Slip) (t : ℕ) → All (IsSound v) ss → is_in_base ss t ≡ true
-    → t < trial_count v
-base_within v [] t each here = absurd (let no : ⊥ = cc in no)
-base_within v (s ∷ ss) t each here = elim (or_cases (is_in s.piece t) (is_in_base ss t) here) [
-  | inl first ↦ piece_within v s.piece t (each 0 s (omega arith)).piece first
-  | inr later ↦ base_within v ss t (All-tail (IsSound v) s ss each) later
-]
-
 -- a good slip has no trial of those before it
 good_apart : (v : Values) (ss : List Slip) (x : Slip) (t : ℕ) → IsGood v ss x → is_in x.piece t ≡ true
     → is_in_base ss t ≡ false
 good_apart v ss x t good here =
     grind (arith, none_passing (is_in_base ss) x.piece.first x.piece.count t good.apart)
 
-good_each : (v : Values) (ss : List Slip) → AreGood v ss → All (IsSound v) ss
-good_each v ss good k d low =
-    let is = good k d low low in record { piece = is.piece; possible = is.possible }
-
-first_apart : (v : Values) (ss : List Slip) (n t : ℕ) → AreGood v ss → n ≤ length ss
+first_apart : (v : Values) (ss : List Slip) (d : Slip) (n t : ℕ) → AreGood v ss → n ≤ length ss
     → times_in (pieces_of_slips (take n ss)) t ≤ 1
-first_apart v ss zero t good le = omega arith
-first_apart v [] (suc n) t good le = omega arith
-first_apart v (s ∷ ss) (suc n) t good le =
-    let x : Slip = get_or (s ∷ ss) n s in
-    let pre : List Slip = take n (s ∷ ss) in
-    let before = first_apart v (s ∷ ss) n t good (omega (arith, le)) in
-    let more : times_in (pieces_of_slips (take (suc n) (s ∷ ss))) t
-    ≡ times_in (pieces_of_slips pre) t + one_if (is_in x.piece t) =
-    ap (λ xs. times_in (pieces_of_slips xs) t) (take-suc (s ∷ ss) n s (omega (arith, le))) ∙ times_more pre x t in
-    elim (cases_Bool (is_in x.piece t)) [
-      | inl here ↦
-          (let one : one_if (is_in x.piece t) ≡ 1 = ap one_if here in
-          let none : times_in (pieces_of_slips pre) t ≡ 0 = times_once pre t before
-          ∙ ap one_if (good_apart v pre x t (good n s (omega (arith, le)) (omega (arith, le))) here) in
-          omega (arith, more, one, none))
-      | inr out ↦ (let none : one_if (is_in x.piece t) ≡ 0 = ap one_if out in omega (arith, more, none, before))
-    ]
+first_apart v ss d zero t good le = omega arith
+first_apart v ss d (suc n) t good le =
+    let x : Slip = get_or ss n d in
+    let pre : List Slip = take n ss in
+    rw (take-suc ss n d (omega arith)) (grind (
+      arith,
+      times_more pre x t,
+      times_once pre t (first_apart v ss d n t good (omega arith)),
+      good_apart v pre x t (good n d (omega arith) (omega arith)),
+    ))
 
 pub good_sound : (v : Values) (ss : List Slip) → AreGood v ss → AreSound v ss
-good_sound v ss good = record {
-  each = good_each v ss good;
-  apart = λ t. subst (λ (xs : List Slip). times_in (pieces_of_slips xs) t ≤ 1) (take_all (length ss) ss (omega arith))
-      (first_apart v ss (length ss) t good (omega arith));
+good_sound v [] good = record { each = All-nil (IsSound v); apart = λ t. omega arith }
+good_sound v (s ∷ ss) good = record {
+  each = λ k d low. (let is = good k d low low in record { piece = is.piece; possible = is.possible });
+  apart = λ t. subst (λ (xs : List Slip). times_in (pieces_of_slips xs) t ≤ 1) (take_all (length (s ∷ ss)) (s ∷ ss)
+      (omega arith)) (first_apart v (s ∷ ss) s (length (s ∷ ss)) t good (omega arith));
 }
 
 pub sound_good : (v : Values) (ss : List Slip) → AreSound v ss → AreGood v ss
@@ -93,20 +65,47 @@ sound_good v ss sound = λ i d low within.
     ≡ ss = ap (λ xs. take i ss ++ xs) (sym (drop-cons ss i d within)) ∙ take-append-drop i ss in
     let is = sound.each i d within in
     apart_good v (take i ss) (drop (suc i) ss) (get_or ss i d) is.piece is.possible
-    (λ t. subst (λ (xs : List Slip). times_in (pieces_of_slips xs) t ≤ 1) (sym whole) (sound.apart t)))
+    (λ t. rw whole (sound.apart t)))
 
--- ---- the same slips in another order
-
+-- the same slips in another order
 pub sound_moved : (v : Values) (ss xs : List Slip) → IsPermutation ss xs → AreSound v ss → AreSound v xs
 sound_moved v ss xs moved sound = record {
   each = All-permutation (IsSound v) ss xs moved sound.each;
-  apart = λ t. (let same : times_in (pieces_of_slips xs) t ≡ times_in (pieces_of_slips ss) t =
-      sum_by-IsPermutation (λ p. cond (is_in p t) 1 0) (pieces_of_slips ss) (pieces_of_slips xs)
-      (IsPermutation-map (λ (s : Slip). s.piece) ss xs moved) in
-      let few = sound.apart t in omega (arith, same, few));
+  apart = λ t. rw (sum_by-IsPermutation (λ p. cond (is_in p t) 1 0) (pieces_of_slips ss) (pieces_of_slips xs)
+      (IsPermutation-map (λ (s : Slip). s.piece) ss xs moved)) (sound.apart t);
 }
 
 -- ---- slips that ascend
+
+-- slips of pieces of the plan, each of which begins where those before it have ended, or after that
+pub record Ascend (v : Values) (ss : List Slip) : Type 0 where
+  pub pieces : All (λ (s : Slip). IsTrue (is_piece v s.piece)) ss
+  pub ascend : (i j : ℕ) (d : Slip) → i < j → j < length ss →
+      (get_or ss i d).piece.first + (get_or ss i d).piece.count ≤ (get_or ss j d).piece.first
+
+pub ascend_of : (v : Values) (ss : List Slip) → AreAscending v ss → Ascend v ss
+ascend_of v ss are = record { pieces = λ k d low. (are.small k d low).piece; ascend = are.ascend }
+
+some_repeats : (v : Values) (p : Piece) → IsTrue (is_piece v p) → 0 < v.repeats
+some_repeats v p piece = grind arith
+
+pub good_ascend : (v : Values) (ss : List Slip) → AreGood v ss → IsNonDecreasingBy (λ (s : Slip). s.piece.first) ss
+    → Ascend v ss
+good_ascend v ss good sorted = record {
+  pieces = λ k d low. (good k d low low).piece;
+  ascend = λ i j d less within. (let x : Slip = get_or ss j d in
+      let is = good j d within within in
+      grind (
+        arith,
+        nat_tests,
+        sorted i j d (omega arith) within,
+        get_or-take j ss i d less,
+        length-take j ss,
+        list_any_at (λ (s : Slip). is_in s.piece x.piece.first) (take j ss) i d,
+        good_apart v (take j ss) x x.piece.first is,
+        piece_in_cell v x.piece (some_repeats v x.piece is.piece) is.piece,
+      ));
+}
 
 pub sound_small : (v : Values) (s : Slip) → IsPlan v → IsSound v s → IsSmall v s
 sound_small v s plan sound = record {
@@ -115,70 +114,95 @@ sound_small v s plan sound = record {
       (few_rings v s plan sound.piece) sound.possible (omega arith);
 }
 
-pub sound_ascend : (v : Values) (ss : List Slip) → IsPlan v → AreGood v ss
-    → IsNonDecreasingBy (λ (s : Slip). s.piece.first) ss → AreAscending v ss
-sound_ascend v ss plan good sorted = record {
-  plan = plan;
-  small = λ k d low. sound_small v (get_or ss k d) plan (sound k d low);
-  ascend = λ i j d less within. elim (cases_lt (get_or ss j d).piece.first
-      ((get_or ss i d).piece.first + (get_or ss i d).piece.count)) [
-        | inl meet ↦
-            (let x : Slip = get_or ss j d in
-            let first : (get_or ss i d).piece.first ≤ x.piece.first = sorted i j d (omega (arith, less)) within in
-            let some = (piece_facts v x.piece plan (sound j d within).piece).some in
-            let own : is_in x.piece x.piece.first ≡ true =
-            within_is x.piece.first (x.piece.first + x.piece.count) x.piece.first (omega arith) (omega (arith, some)) in
-            let pre : List Slip = take j ss in
-            let at : get_or pre i d ≡ get_or ss i d = get_or-take j ss i d less in
-            let here : is_in (get_or pre i d).piece x.piece.first ≡ true =
-            ap (λ (s : Slip). is_in s.piece x.piece.first) at
-            ∙ within_is (get_or ss i d).piece.first ((get_or ss i d).piece.first + (get_or ss i d).piece.count)
-            x.piece.first first meet in
-            absurd (not_both (list_any_at (λ (s : Slip). is_in s.piece x.piece.first) pre i d
-            (omega (arith, less, length-take j ss, within)) here)
-            (good_apart v pre x x.piece.first (good j d within within) own)))
-        | inr apart ↦ apart
-      ];
-}
-  where
-    sound : All (IsSound v) ss
-    sound = good_each v ss good
-
--- the next slip comes after those before it
-pub comes_next : (v : Values) (ss : List Slip) (i : ℕ) (d : Slip) → AreAscending v ss → i < length ss
-    → ComesAfter v (take i ss) (get_or ss i d) ((get_or ss i d).piece.first / v.repeats)
-comes_next v ss i d ascends within =
-    let x : Slip = get_or ss i d in
-    let facts = piece_facts v x.piece ascends.plan (ascends.small i d within).piece in
+-- good slips in the order of their first trials
+pub moved_ascending : (v : Values) (ss xs : List Slip) → IsPlan v → AreGood v ss → IsPermutation ss xs
+    → IsNonDecreasingBy (λ (s : Slip). s.piece.first) xs → AreAscending v xs
+moved_ascending v ss xs plan good moved sorted =
+    let sound = sound_moved v ss xs moved (good_sound v ss good) in
     record {
-      some = facts.some;
-      low = facts.starts;
-      high = facts.ends;
-      before = λ t le. list_any_none (λ (s : Slip). is_in s.piece t) (take i ss) (λ k e low.
-          (let less : k < i = omega (arith, low, length-take i ss) in
-          let at : get_or (take i ss) k e ≡ get_or ss k e = get_or-take i ss k e less in
-          let same : get_or ss i e ≡ x = get_or_default ss i e d within in
-          let end = ascends.ascend k i e less within in
-          let from : ℕ = (get_or (take i ss) k e).piece.first in
-          let count : ℕ = (get_or (take i ss) k e).piece.count in
-          let a : (get_or ss k e).piece.first ≡ from = ap (λ (s : Slip). s.piece.first) (sym at) in
-          let b : (get_or ss k e).piece.count ≡ count = ap (λ (s : Slip). s.piece.count) (sym at) in
-          let c : (get_or ss i e).piece.first ≡ x.piece.first = ap (λ (s : Slip). s.piece.first) same in
-          within_above from (from + count) t (omega (arith, end, a, b, c, le))));
-      firsts = λ k e low.
-          (let less : k < i = omega (arith, low, length-take i ss) in
-          let at : get_or (take i ss) k e ≡ get_or ss k e = get_or-take i ss k e less in
-          let same : get_or ss i e ≡ x = get_or_default ss i e d within in
-          let end = ascends.ascend k i e less within in
-          let p : Piece = (get_or ss k e).piece in
-          let some = (piece_facts v p ascends.plan (ascends.small k e (omega (arith, less, within))).piece).some in
-          let a : (get_or ss k e).piece.first ≡ (get_or (take i ss) k e).piece.first =
-          ap (λ (s : Slip). s.piece.first) (sym at) in
-          let c : (get_or ss i e).piece.first ≡ x.piece.first = ap (λ (s : Slip). s.piece.first) same in
-          omega (arith, end, a, c, some));
+      plan = plan;
+      small = λ k d low. sound_small v (get_or xs k d) plan (sound.each k d low);
+      ascend = (good_ascend v xs (sound_good v xs sound) sorted).ascend;
     }
 
--- slips that ascend have no trials from the plan's end on
-pub small_within : (v : Values) (ss : List Slip) → AreAscending v ss → (t : ℕ) → trial_count v ≤ t
-    → is_in_base ss t ≡ false
-small_within v ss ascends t le = grind (arith, list_any_none, piece_facts)
+-- the next slip comes after those before it
+pub comes_next : (v : Values) (ss : List Slip) (i : ℕ) (d : Slip) → Ascend v ss → i < length ss
+    → ComesAfter v (take i ss) (get_or ss i d) ((get_or ss i d).piece.first / v.repeats)
+comes_next v ss i d is within =
+    let facts = λ (k : ℕ) (low : k < length ss). (let piece = is.pieces k d low in
+    piece_in_cell v (get_or ss k d).piece (some_repeats v (get_or ss k d).piece piece) piece) in
+    record {
+      facts = facts i within;
+      earlier = All-from_get_or (Precedes (get_or ss i d)) (take i ss) d (λ k low.
+          (let less : k < i = omega (arith, low, length-take i ss) in
+          rw (get_or-take i ss k d less) (record {
+            some = (facts k (omega arith)).some;
+            ends = is.ascend k i d less within;
+          })));
+    }
+
+pub joined_next : (v : Values) (ss : List Slip) (i : ℕ) (d : Slip) → Ascend v ss → i < length ss
+    → joined v (take (i + 1) ss) ≡ with_slip v (joined v (take i ss)) (get_or ss i d)
+joined_next v ss i d is within =
+    ap (joined v) (take_more ss i d within)
+    ∙ joined_more v (take i ss) (get_or ss i d) ((get_or ss i d).piece.first / v.repeats) (comes_next v ss i d is within)
+
+-- ---- slips in order
+
+-- what is read of a list where nothing is
+abbrev pub no_slip : Slip
+no_slip = record { piece = record { first = 0; count = 0 }; totals = each_number (λ n. 0) }
+
+-- a slip of some that begins last, and the others
+abbrev BeginsBy : ℕ → Slip → Type 0
+BeginsBy n s = s.piece.first ≤ n
+
+last_of : (s : Slip) (ss : List Slip) → (x : Slip) × (rest : List Slip)
+    × (IsPermutation (s ∷ ss) (rest ++ x ∷ []) × All (BeginsBy x.piece.first) rest)
+last_of s [] = (s, [], (IsPermutation-refl (s ∷ []), All-nil (BeginsBy s.piece.first)))
+last_of s (t ∷ ss) =
+    let found = last_of t ss in
+    let x : Slip = found.0 in
+    let rest : List Slip = found.1 in
+    let moved : IsPermutation (s ∷ t ∷ ss) (s ∷ (rest ++ x ∷ [])) =
+    IsPermutation-cons s (t ∷ ss) (rest ++ x ∷ []) found.2.0 in
+    let all : All (BeginsBy x.piece.first) rest = found.2.1 in
+    elim (cases_lt x.piece.first s.piece.first) [
+      | inl less ↦ (
+        s,
+        rest ++ x ∷ [],
+        (
+          IsPermutation-trans (s ∷ t ∷ ss) (s ∷ (rest ++ x ∷ [])) ((rest ++ x ∷ []) ++ s ∷ []) moved
+              (IsPermutation-sym ((rest ++ x ∷ []) ++ s ∷ []) (s ∷ (rest ++ x ∷ []))
+              (IsPermutation-to_front (rest ++ x ∷ []) s)),
+          All-push (BeginsBy s.piece.first) rest x
+              (All-weaker (BeginsBy x.piece.first) (BeginsBy s.piece.first) (λ q le. omega (arith, le, less)) rest all)
+              (omega (arith, less)),
+        ),
+      )
+      | inr most ↦ (x, s ∷ rest, (moved, All-cons (BeginsBy x.piece.first) s rest most all))
+    ]
+
+-- slips in the order of their first trials
+pub in_order : (n : ℕ) (ss : List Slip) → length ss ≡ n
+    → (xs : List Slip) × (IsPermutation ss xs × IsNonDecreasingBy (λ (s : Slip). s.piece.first) xs)
+in_order n [] long = ([], (IsPermutation-refl [], IsNonDecreasingBy-short (λ (s : Slip). s.piece.first) [] (omega arith)))
+in_order zero (s ∷ ss) long = absurd (omega arith)
+in_order (suc n) (s ∷ ss) long =
+    let found = last_of s ss in
+    let x : Slip = found.0 in
+    let rest : List Slip = found.1 in
+    let moved : IsPermutation (s ∷ ss) (rest ++ x ∷ []) = found.2.0 in
+    let sorted = in_order n rest
+    (omega (arith, long, length_permutation (s ∷ ss) (rest ++ x ∷ []) moved, length_push rest x)) in
+    let xs : List Slip = sorted.0 in
+    let same : IsPermutation rest xs = sorted.1.0 in (
+      xs ++ x ∷ [],
+      (
+        IsPermutation-trans (s ∷ ss) (rest ++ x ∷ []) (xs ++ x ∷ []) moved
+            (IsPermutation-append_left (x ∷ []) rest xs same),
+        IsNonDecreasingBy-push (λ (q : Slip). q.piece.first) xs x sorted.1.1
+            (λ d some. All-permutation (BeginsBy x.piece.first) rest xs same found.2.1
+            (length xs - 1) d (omega (arith, some))),
+      ),
+    )

@@ -1,3 +1,4 @@
+pub mod Words
 pub mod Blocks
 pub mod Turns
 pub mod Counting
@@ -8,10 +9,9 @@ pub mod Appends
 pub mod Batches
 pub mod Endings
 pub mod LeftTrials
-pub mod Chains
+pub mod SpanWalks
 pub mod Merges
+pub mod Steps
 pub mod Goods
-pub mod Ends
-pub mod RunSums
 pub mod LawsOfJoins
 pub mod Joins

@@ -1,8 +1,7 @@
-use Rattle.std.proofs.Common.{rules, ◌≡◌, ◌-◌, ℕ, List, true, set, sym, ap, ◌∙◌}
+use Rattle.std.proofs.Common.{rules, ◌≡◌, ◌-◌, ◌∙◌, List, true, set, sym, ap}
 use Rattle.std.proofs.lemmas.List.{get_or_default}
-use Rattle.cut_ledger.specs.declared.slip.Slip.{Slip}
-use Rattle.cut_shares.specs.join.inside.Merging.{adjoins}
-use Rattle.cut_shares.proofs.Ends.{first_left, last_left, last_set}
+use Rattle.cut_shares.proofs.Merges.{first_left, last_left, last_set}
+use Rattle.cut_shares.proofs.Words.{Slip, adjoins}
 use Rattle.cut_shares.proofs.join.joined.add.Goals.{else-before-gt0-via-then-before-gt0+else-adjoins}
 use Rattle.cut_shares.proofs.join.joined.add.Goals.{else-before-gt0-via-else-before-gt0}
 use Rattle.cut_shares.proofs.join.joined.add.Goals as goal
@@ -10,12 +9,11 @@ use Rattle.cut_shares.proofs.join.joined.add.Goals as goal
 pub returns-then-adjoins : goal.returns-then-adjoins
 returns-then-adjoins c =
     let olds : List Slip = c.args.merged.now.items in
-    let n : ℕ = c.len-before.result - 1 in
-    let first = c.index.ensures in
+    let n = c.len-before.result - 1 in
     let again = c.index-then-adjoins.ensures in
     let made : Slip = c.index-then-adjoins.result.now in
     let same : c.index.result.now ≡ made =
-    first ∙ get_or_default olds n c.index.result.now made (search rules) ∙ sym again in
+    c.index.ensures ∙ get_or_default olds n c.index.result.now made (search rules) ∙ sym again in
     let is : adjoins c.args.plan.now made.piece c.args.slip.piece ≡ true = search rules in
     ap (λ (s : Slip). set olds n s) c.with_next.ensures
     ∙ last_set c.args.plan.now olds c.args.slip made n (search rules) again is

@@ -1,17 +1,16 @@
-use Rattle.std.proofs.Common.{List, ◌≡◌, get_or, subst, sym, arith, All, take, ◌+◌}
-use Rattle.cut_outcome.specs.Sum.{each_number}
-use Rattle.cut_ledger.specs.declared.slip.Slip.{Slip}
-use Rattle.cut_shares.specs.join.inside.Merging.{IsSmall, with_slip}
-use Rattle.cut_shares.proofs.Ends.{all_small, ascending_joined, merged_more}
-use Rattle.cut_shares.proofs.Merges.{AreMerged}
+use Rattle.std.proofs.Common.{List, ◌≡◌, ◌∙◌, get_or, sym, ap, arith}
+use Rattle.std.proofs.lemmas.List.{take_all}
+use Rattle.cut_shares.proofs.Goods.{ascend_of, joined_next, no_slip}
+use Rattle.cut_shares.proofs.Merges.{next_small, with_all}
+use Rattle.cut_shares.proofs.Steps.{none_joined}
+use Rattle.cut_shares.proofs.Words.{IsSmall, Slip, with_slip}
 use Rattle.cut_shares.proofs.join.joined.merged.Goals as goal
-
--- what is read of a list where nothing is
-abbrev no_slip : Slip
-no_slip = record { piece = record { first = 0; count = 0 }; totals = each_number (λ n. 0) }
 
 pub add-requires-clause-others : goal.add-requires-clause-others
 add-requires-clause-others c = c.loop-slip.invariant.small
+
+pub loop-slip-init : goal.loop-slip-init
+loop-slip-init c = grind (arith, none_joined)
 
 pub loop-slip-preserved : goal.loop-slip-preserved
 loop-slip-preserved c =
@@ -19,18 +18,15 @@ loop-slip-preserved c =
     let slips : List Slip = c.args.slips.now in
     let i = c.loop-slip.slip-index in
     let olds : List Slip = c.loop-slip.merged.items in
-    let news : List Slip = c.add.new.merged.items in
-    let added : news ≡ with_slip v olds (get_or slips i no_slip) = c.in_ok-add.ensures in
+    let x : Slip = get_or slips i no_slip in
+    let small : IsSmall v x = c.requires.small i no_slip (omega arith) in
+    let added : c.add.new.merged.items ≡ with_slip v olds x = c.in_ok-add.ensures in
     record {
-      merged = subst (λ (l : List Slip). AreMerged v (take (i + 1) slips) 0 l) (sym added)
-          (merged_more v slips olds i no_slip c.requires (omega arith) c.loop-slip.invariant.merged);
-      small = subst (λ (l : List Slip). All (IsSmall v) l) (sym added)
-          (all_small v olds (get_or slips i no_slip) c.requires.plan c.loop-slip.invariant.small
-          (c.requires.small i no_slip (omega arith)));
+      merged = added ∙ ap (λ l. with_slip v l x) c.loop-slip.invariant.merged
+          ∙ sym (joined_next v slips i no_slip (ascend_of v slips c.requires) (omega arith));
+      small = rw added (with_all v x (IsSmall v) (λ s adjoin one. next_small v s x adjoin one small) small olds
+          c.loop-slip.invariant.small);
     }
 
 pub returns : goal.returns
-returns c = ascending_joined c.args.plan.now c.args.slips.now c.loop-slip.merged.items c.requires
-    (subst (λ n. AreMerged c.args.plan.now (take n c.args.slips.now) 0 c.loop-slip.merged.items)
-    (let end = c.loop-slip-test.false in let least = c.loop-slip.auto.slip-index-end in omega (arith, end, least))
-    c.loop-slip.invariant.merged)
+returns c = grind (arith, take_all)

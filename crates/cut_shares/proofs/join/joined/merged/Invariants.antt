@@ -1,11 +1,10 @@
-use Rattle.std.proofs.Common.{All, take}
-use Rattle.cut_shares.specs.join.inside.Merging.{IsSmall}
-use Rattle.cut_shares.proofs.Merges.{AreMerged}
+use Rattle.std.proofs.Common.{◌≡◌, All, take}
+use Rattle.cut_shares.proofs.Words.{IsSmall, joined}
 use Rattle.cut_shares.proofs.join.joined.merged.Given as goal
 
--- the slips that were looked at are merged
+-- the slips that were looked at are joined
 abbrev pub invariant-loop-slip : goal.invariant-loop-slip
 invariant-loop-slip l = record {
-  merged : AreMerged l.fn.plan (take l.slip-index l.slips) 0 l.merged.items;
+  merged : l.merged.items ≡ joined l.fn.plan (take l.slip-index l.slips);
   small : All (IsSmall l.fn.plan) l.merged.items;
 }

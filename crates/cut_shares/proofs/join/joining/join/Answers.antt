@@ -8,7 +8,6 @@ use Rattle.cut_journal.specs.declared.store_fault.StoreFault.{StoreFault}
 use Rattle.cut_journal.specs.Adding.{EndsAdding}
 use Rattle.cut_journal.specs.File.{HoldsAllTotals}
 use Rattle.cut_journal.proofs.Adding.{none_added}
-use Rattle.cut_shares.specs.join.Joined.{joined}
 use Rattle.cut_shares.specs.join.Joining.{EndsJoin}
 use Rattle.cut_shares.proofs.Joins.{good_hold, joins_all, joins_some}
 use Rattle.cut_shares.proofs.join.joining.join.Goals as goal

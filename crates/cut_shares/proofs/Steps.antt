@@ -1,0 +1,231 @@
+-- Joined slips, once one comes after them.
+use Rattle.std.proofs.Common.{◌≡◌, ◌∙◌, ℕ, zero, suc, ◌+◌, ◌-◌, ◌*◌, ◌<◌, ◌≤◌, inl, inr, Bool, true, false, List, [], ◌∷◌}
+use Rattle.std.proofs.Common.{◌++◌, map, filter, length, cond, refl, sym, ap, arith, append-nil}
+use Rattle.std.proofs.Math.Nat.{mul-le-mul_right}
+use Rattle.std.proofs.lemmas.Bool.{cases_lt, le-ltb, lt-ltb}
+use Rattle.std.proofs.lemmas.Bool.Decides.{nat_tests}
+use Rattle.std.proofs.lemmas.List.{map-append}
+use Rattle.std.proofs.lemmas.List.Elements.{All-head, All-tail, filter-append}
+use Rattle.std.proofs.lemmas.List.Folds.{list_any_none}
+use Rattle.std.proofs.lemmas.List.Sums.{sum_by-cons, sum_by_push}
+use Rattle.cut_lists.proofs.Counts.{filter-none}
+use Rattle.cut_lists.proofs.Maps.{map-map}
+use Rattle.cut_sets.proofs.SpanLemmas.{Gives}
+use Rattle.cut_ledger.proofs.AddLemmas.{in_base_more}
+use Rattle.cut_ledger.proofs.CellLemmas.{PieceFacts, cell_is}
+use Rattle.cut_shares.proofs.Merges.{with_first}
+use Rattle.cut_shares.proofs.SpanWalks.{span_whole, spans_none, walk}
+use Rattle.cut_shares.proofs.Words.{All, Piece, Slip, Span, Totals, Values, adjoins, cells_of, flat_map, is_in, is_in_base, joined, runs_of_cell}
+use Rattle.cut_shares.proofs.Words.{piece_at, plus, range_with_len, slip_of_run, slip_sum, slips_of_run, span_between, spans}
+use Rattle.cut_shares.proofs.Words.{with_slip}
+
+-- ---- one slip more
+
+pub record Precedes (x s : Slip) : Type 0 where
+  pub some : 0 < s.piece.count
+  pub ends : s.piece.first + s.piece.count ≤ x.piece.first
+
+-- a slip of cell number c that comes after others
+pub record ComesAfter (v : Values) (ss : List Slip) (x : Slip) (c : ℕ) : Type 0 where
+  pub facts : PieceFacts v x.piece c
+  pub earlier : All (Precedes x) ss
+
+-- the slips of the runs that spans are
+abbrev made : List Slip → List Span → List Slip
+made ss xs = map (λ s. slip_of_run ss (piece_at s)) xs
+
+-- tests that agree at each element keep the same
+filter_same : {X : Type 0} (p q : X → Bool) (xs : List X) → All (λ x. p x ≡ q x) xs → filter p xs ≡ filter q xs
+filter_same p q [] same = refl
+filter_same p q (x ∷ xs) same =
+    grind (arith, All-head (λ y. p y ≡ q y) x xs same, filter_same p q xs (All-tail (λ y. p y ≡ q y) x xs same))
+
+module _ (v : Values) (ss : List Slip) (x : Slip) (c : ℕ) (comes : ComesAfter v ss x c) where
+  abbrev more : List Slip
+  more = ss ++ x ∷ []
+
+  none_from : (t : ℕ) → x.piece.first ≤ t → is_in_base ss t ≡ false
+  none_from t le =
+      list_any_none (λ (s : Slip). is_in s.piece t) ss (λ k d low. grind (arith, nat_tests, comes.earlier k d low))
+
+  same_before : (t : ℕ) → t < x.piece.first → is_in_base more t ≡ is_in_base ss t
+  same_before t less = grind (arith, nat_tests, in_base_more)
+
+  own_trials : Gives (is_in_base more) true x.piece.first (x.piece.first + x.piece.count)
+  own_trials t a b = grind (arith, nat_tests, in_base_more)
+
+  none_after : (t : ℕ) → x.piece.first + x.piece.count ≤ t → is_in_base more t ≡ false
+  none_after t le = grind (arith, nat_tests, in_base_more, none_from)
+
+  -- a run that ends before it keeps its slips
+  earlier_run : (p : Piece) → p.first + p.count ≤ x.piece.first → slip_of_run more p ≡ slip_of_run ss p
+  earlier_run p le =
+      let same : slips_of_run more p ≡ slips_of_run ss p = grind (arith, nat_tests, filter-append, append-nil) in
+      ap (λ xs. record { piece = p; totals = slip_sum xs }) same
+
+  -- the slips of a run that goes on into it, and those of the run without it
+  own_slips : (low : ℕ) → low ≤ x.piece.first
+      → slips_of_run more (record { first = low; count = x.piece.first + x.piece.count - low })
+      ≡ slips_of_run ss (record { first = low; count = x.piece.first - low }) ++ x ∷ []
+  own_slips low le =
+      let p : Piece = record { first = low; count = x.piece.first + x.piece.count - low } in
+      let q : Piece = record { first = low; count = x.piece.first - low } in
+      let some = comes.facts.some in
+      let same : slips_of_run ss p ≡ slips_of_run ss q =
+      filter_same (λ s. is_in p s.piece.first) (λ s. is_in q s.piece.first) ss
+      (λ k d within. grind (arith, nat_tests, comes.earlier k d within)) in
+      let here : is_in p x.piece.first ≡ true = grind (arith, nat_tests) in
+      filter-append (λ s. is_in p s.piece.first) ss (x ∷ [])
+      ∙ ap (λ xs. xs ++ filter (λ s. is_in p s.piece.first) (x ∷ [])) same
+      ∙ ap (λ b. slips_of_run ss q ++ cond b (x ∷ []) []) here
+
+  sum_more : (xs : List Slip) → slip_sum (xs ++ x ∷ []) ≡ plus (slip_sum xs) x.totals
+  sum_more xs = grind (arith, sum_by_push)
+
+  one_sum : slip_sum (x ∷ []) ≡ x.totals
+  one_sum = grind (arith, sum_by-cons)
+
+  -- ---- the spans of a cell, before other runs
+
+  -- what is shown of the spans of a cell, without the slip and with it, before the runs of the cells after it
+  abbrev Steps : List Slip → List Slip → List Span → List Span → Type 0
+  Steps before after xs ys = made more ys ++ after ≡ with_slip v (made ss xs ++ before) x
+
+  -- a span that ends before it, and does not go on into it
+  skipped : (before after : List Slip) (low last : ℕ) (xs ys : List Span) → last ≤ x.piece.first
+      → (low < last → adjoins v (record { first = low; count = last - low }) x.piece ≡ false)
+      → Steps before after xs ys → Steps before after (span_between low last ++ xs) (span_between low last ++ ys)
+  skipped before after low last xs ys le apart steps = elim (cases_lt low last) [
+    | inl less ↦
+        (let p : Piece = record { first = low; count = last - low } in
+        rw (lt-ltb low last less) (ap (λ j. j ∷ (made more ys ++ after)) (earlier_run p (omega arith))
+        ∙ ap (λ js. slip_of_run ss p ∷ js) steps
+        ∙ sym (with_first v (slip_of_run ss p) x (made ss xs ++ before) (apart less))))
+    | inr most ↦ rw (le-ltb low last most) steps
+  ]
+
+  -- the spans of a cell before its own
+  cell_before : (d : ℕ) (before after : List Slip) → d < c → after ≡ with_slip v before x
+      → Steps before after (spans (is_in_base ss) (d * v.repeats) v.repeats) (spans (is_in_base more) (d * v.repeats) v.repeats)
+  cell_before d before after less is =
+      let r : ℕ = v.repeats in
+      let high : ℕ = d * r + r in
+      let starts = comes.facts.starts in
+      let later : suc d * r ≤ c * r = mul-le-mul_right r less in
+      let ends : high ≤ x.piece.first = omega arith in
+      let skip : (low last : ℕ) (xs ys : List Span) → d * r ≤ low → last ≤ high → Steps before after xs ys
+      → Steps before after (span_between low last ++ xs) (span_between low last ++ ys) = λ low last xs ys from to.
+      skipped before after low last xs ys (omega arith) (λ some. grind (arith, cell_is)) in
+      let all = walk (is_in_base ss) (is_in_base more) (d * r) high high (Steps before after) (omega arith)
+      (λ t low. same_before t (omega arith))
+      (λ low from to passes. (let none : (t : ℕ) → high ≤ t → t < high → ⊥ = λ t a b. omega arith in
+      rw (
+        span_whole (is_in_base ss) low high high to (omega arith) passes (λ t a b. absurd (none t a b)),
+        span_whole (is_in_base more) low high high to (omega arith)
+            (λ t a b. same_before t (omega arith) ∙ passes t a b) (λ t a b. absurd (none t a b)),
+        ← append-nil (span_between low high),
+      ) (skip low high [] [] from (omega arith) is)))
+      (λ low last xs ys from le to steps. skip low last xs ys from (omega arith) steps)
+      r (d * r) (d * r) (omega arith) (omega arith) refl (λ t a b. absurd (omega arith)) in
+      rw (let w : high - d * r ≡ r = omega arith in w) at all
+
+  -- the spans of its own cell, from a number on that is in its run or where that begins
+  own_run : (low : ℕ) → c * v.repeats ≤ low → low ≤ x.piece.first → Gives (is_in_base ss) true low x.piece.first
+      → Steps [] [] (spans (is_in_base ss) low (c * v.repeats + v.repeats - low))
+      (spans (is_in_base more) low (c * v.repeats + v.repeats - low))
+  own_run low from to passes =
+      let a : ℕ = x.piece.first in
+      let b : ℕ = x.piece.first + x.piece.count in
+      let high : ℕ = c * v.repeats + v.repeats in
+      let some = comes.facts.some in
+      let ends = comes.facts.ends in
+      let before : Piece = record { first = low; count = a - low } in
+      let run : Piece = record { first = low; count = b - low } in
+      let sum : Totals = slip_sum (slips_of_run more run) in
+      let one : ℕ → ℕ → Totals → List Slip = λ m n t.
+      record { piece = record { first = m; count = n }; totals = t } ∷ [] in
+      rw (
+        span_whole (is_in_base ss) low a high to (omega arith) passes (λ t le _. none_from t le),
+        span_whole (is_in_base more) low b high (omega arith) ends (λ t le less. grind (arith, same_before, own_trials))
+            (λ t le _. none_after t le),
+        lt-ltb low b (omega arith),
+      ) (elim (cases_lt low a) [
+        | inl less ↦
+            (let count : b - low ≡ a - low + x.piece.count = omega arith in
+            let adjoin : adjoins v before x.piece ≡ true = grind (arith, cell_is) in
+            let sums = ap slip_sum (own_slips low to) ∙ sum_more (slips_of_run ss before) in
+            rw (lt-ltb low a less, adjoin) (ap (λ n. one low n sum) count ∙ ap (one low (a - low + x.piece.count)) sums))
+        | inr most ↦
+            (let none : slips_of_run ss before ≡ [] = filter-none (λ s. is_in before s.piece.first) ss
+            (λ k d within. grind (arith, nat_tests, comes.earlier k d within)) in
+            let sums : sum ≡ x.totals =
+            ap slip_sum (own_slips low to ∙ ap (λ xs. xs ++ x ∷ []) none) ∙ one_sum in
+            let first : low ≡ a = omega arith in
+            let count : b - low ≡ x.piece.count = omega arith in
+            rw (le-ltb low a most) (ap (λ m. one m (b - low) sum) first ∙ ap (λ n. one a n sum) count
+            ∙ ap (one a x.piece.count) sums))
+      ])
+
+  cell_own : Steps [] [] (spans (is_in_base ss) (c * v.repeats) v.repeats) (spans (is_in_base more) (c * v.repeats) v.repeats)
+  cell_own =
+      let r : ℕ = v.repeats in
+      let starts = comes.facts.starts in
+      let ends = comes.facts.ends in
+      let all = walk (is_in_base ss) (is_in_base more) (c * r) (c * r + r) x.piece.first (Steps [] []) (omega arith)
+      same_before own_run (λ low last xs ys from le less steps.
+      skipped [] [] low last xs ys (omega arith) (λ some. grind arith) steps)
+      (x.piece.first - c * r) (c * r) (c * r) (omega arith) (omega arith) (omega arith) (λ t a b. absurd (omega arith)) in
+      rw (let w : c * r + r - c * r ≡ r = omega arith in w) at all
+
+-- from a number on that no slip has, cells have no runs
+cells_after : (v : Values) (ss : List Slip) (d m : ℕ) → ((t : ℕ) → d * v.repeats ≤ t → is_in_base ss t ≡ false)
+    → flat_map (λ e. made ss (spans (is_in_base ss) (e * v.repeats) v.repeats)) (range_with_len d m) ≡ []
+cells_after v ss d zero none = refl
+cells_after v ss d (suc m) none =
+    rw (spans_none (is_in_base ss) (d * v.repeats) v.repeats (λ t le _. none t le))
+    (cells_after v ss (d + 1) m (λ t le. none t (omega arith)))
+
+-- the cells from number d on, its own among them
+cells_more : (v : Values) (ss : List Slip) (x : Slip) (c d m : ℕ) → ComesAfter v ss x c → d ≤ c → c < d + m
+    → flat_map (λ e. made (ss ++ x ∷ []) (spans (is_in_base (ss ++ x ∷ [])) (e * v.repeats) v.repeats)) (range_with_len d m)
+    ≡ with_slip v (flat_map (λ e. made ss (spans (is_in_base ss) (e * v.repeats) v.repeats)) (range_with_len d m)) x
+cells_more v ss x c d zero comes from to = absurd (omega arith)
+cells_more v ss x c d (suc m) comes from to = elim (cases_lt d c) [
+  | inl less ↦ cell_before v ss x c comes d
+      (flat_map (λ e. made ss (spans (is_in_base ss) (e * v.repeats) v.repeats)) (range_with_len (d + 1) m))
+      (flat_map (λ e. made (ss ++ x ∷ []) (spans (is_in_base (ss ++ x ∷ [])) (e * v.repeats) v.repeats))
+      (range_with_len (d + 1) m)) less (cells_more v ss x c (d + 1) m comes (omega arith) (omega arith))
+  | inr most ↦
+      (let same : c ≡ d = omega arith in
+      let ends = comes.facts.ends in
+      let past : (t : ℕ) → (d + 1) * v.repeats ≤ t → x.piece.first + x.piece.count ≤ t = λ t le.
+      (let next : (d + 1) * v.repeats ≡ c * v.repeats + v.repeats = rw same (omega arith) in omega arith) in
+      rw (
+        cells_after v ss (d + 1) m (λ t le. none_from v ss x c comes t (let far = past t le in omega arith)),
+        cells_after v (ss ++ x ∷ []) (d + 1) m (λ t le. none_after v ss x c comes t (past t le)),
+        ← same,
+      ) (cell_own v ss x c comes))
+]
+
+-- the runs of all cells, as spans
+by_spans : (v : Values) (ss : List Slip) (cs : List ℕ) → map (slip_of_run ss) (flat_map (runs_of_cell v ss) cs)
+    ≡ flat_map (λ c. made ss (spans (is_in_base ss) (c * v.repeats) v.repeats)) cs
+by_spans v ss [] = refl
+by_spans v ss (c ∷ cs) =
+    rw (map-append (slip_of_run ss) (runs_of_cell v ss c) (flat_map (runs_of_cell v ss) cs), by_spans v ss cs)
+    (ap (λ xs. xs ++ flat_map (λ c. made ss (spans (is_in_base ss) (c * v.repeats) v.repeats)) cs)
+    (map-map piece_at (slip_of_run ss) (spans (is_in_base ss) (c * v.repeats) v.repeats)))
+
+pub none_joined : (v : Values) → joined v [] ≡ []
+unfolding joined
+none_joined v =
+    by_spans v [] (range_with_len 0 (length (cells_of v))) ∙ cells_after v [] 0 (length (cells_of v)) (λ t le. refl)
+
+pub joined_more : (v : Values) (ss : List Slip) (x : Slip) (c : ℕ) → ComesAfter v ss x c
+    → joined v (ss ++ x ∷ []) ≡ with_slip v (joined v ss) x
+unfolding joined
+joined_more v ss x c comes =
+    let cells : List ℕ = range_with_len 0 (length (cells_of v)) in
+    let cell = comes.facts.cell in
+    by_spans v (ss ++ x ∷ []) cells ∙ cells_more v ss x c 0 (length (cells_of v)) comes (omega arith) (omega arith)
+    ∙ ap (λ js. with_slip v js x) (sym (by_spans v ss cells))
