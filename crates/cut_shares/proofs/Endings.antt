@@ -154,7 +154,7 @@ pub ends_short : {D : Type 0} (log_of : D → DiskLog) (s : Share) (v : Values)
     (ss : List Slip) (all : List Piece) (old new : JournalValue D) → IsBegun s v ss all old
     → IsUpTo log_of false s v all [] old new → EndsShare log_of (Err WorkMemory) s v ss old new
 ends_short log_of s v ss all old new begun upto =
-    let at = some_time s v upto.lost upto.parted.lost_own (upto.sufficed.some refl) in
+    let at = some_time s v all upto.lost upto.parted.lost_own (upto.sufficed.some refl) in
     let t : ℕ = at.0 in
     let low : 1 ≤ times_in upto.lost t = at.1 in
     let one = upto.parted.times t in

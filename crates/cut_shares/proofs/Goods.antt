@@ -4,7 +4,7 @@ use Rattle.std.proofs.Common.{length, take, drop, cond, get_or, sym, ap, subst, 
 use Rattle.std.proofs.Math.Seq.{drop-cons, take-suc}
 use Rattle.std.proofs.lemmas.Bool.{cases_lt}
 use Rattle.std.proofs.lemmas.Bool.Decides.{nat_tests}
-use Rattle.std.proofs.lemmas.List.{get_or-take, length-take, length_push, take_all, take_more}
+use Rattle.std.proofs.lemmas.List.{get_or-take, get_or_append_left, length-append, length-take, length_push, take_all, take_more}
 use Rattle.std.proofs.lemmas.List.Elements.{All-cons, All-from_get_or, All-nil, All-push, All-weaker}
 use Rattle.std.proofs.lemmas.List.Folds.{list_any_at}
 use Rattle.std.proofs.lemmas.List.Sorted.{All-permutation, IsNonDecreasingBy-push, IsNonDecreasingBy-short}
@@ -20,6 +20,10 @@ use Rattle.cut_shares.proofs.Steps.{ComesAfter, Precedes, joined_more}
 use Rattle.cut_shares.proofs.Words.{All, AreAscending, AreGood, ArePossible, IsGood, IsNonDecreasingBy, IsPermutation}
 use Rattle.cut_shares.proofs.Words.{IsPlan, IsSmall, IsTrue, Piece, Slip, Values, cell_at, is_in, is_in_base, is_piece, joined}
 use Rattle.cut_shares.proofs.Words.{each_number, pieces_of_slips, times_in, with_slip}
+
+pub All-first : {X : Type 0} (P : X → Type 0) (xs ys : List X) → All P (xs ++ ys) → All P xs
+All-first P xs ys all k d low =
+    rw (get_or_append_left xs ys d k low) at (all k d (omega (arith, low, length-append xs ys)))
 
 -- ---- sound slips that are apart
 

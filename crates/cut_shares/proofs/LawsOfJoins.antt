@@ -4,7 +4,7 @@ use Rattle.std.proofs.Common.{◌≡◌, ◌∙◌, ℕ, zero, suc, ◌+◌, ◌
 use Rattle.std.proofs.Common.{◌++◌, map, filter, length, take, cond, get_or, refl, sym, ap, subst, arith, nat_lt, IsTrue}
 use Rattle.std.proofs.Math.Seq.{take-suc}
 use Rattle.std.proofs.lemmas.Bool.Decides.{nat_tests}
-use Rattle.std.proofs.lemmas.List.{get_or_append_left, get_or_push, length_push, take_all}
+use Rattle.std.proofs.lemmas.List.{get_or_push, length_push, take_all}
 use Rattle.std.proofs.lemmas.List.Elements.{All-from_recursion, All-nil, All-weaker, recursion_from_All}
 use Rattle.std.proofs.lemmas.List.Sorted.{All-permutation, list_any-IsPermutation, sum_by-IsPermutation}
 use Rattle.std.proofs.lemmas.List.Sums.{sum_by-append, sum_by_push}
@@ -18,7 +18,7 @@ use Rattle.cut_outcome.proofs.Places.{settled_more}
 use Rattle.cut_ledger.specs.lines.Lines.{header, line_with, table}
 use Rattle.cut_ledger.specs.Laws.{TrueSlipsAreGood, TrueSlipsGiveTheTable}
 use Rattle.cut_ledger.specs.Table.{full_sum, table_over}
-use Rattle.cut_shares.proofs.Goods.{AreSound, Ascend, IsSound, comes_next, good_ascend, good_sound, in_order, sound_good}
+use Rattle.cut_shares.proofs.Goods.{All-first, AreSound, Ascend, IsSound, comes_next, good_ascend, good_sound, in_order, sound_good}
 use Rattle.cut_shares.proofs.Goods.{no_slip, sound_moved}
 use Rattle.cut_shares.proofs.Merges.{Adjoin, with_all, with_apart, with_sum}
 use Rattle.cut_shares.proofs.Steps.{Precedes, joined_more, none_joined}
@@ -165,20 +165,15 @@ joined_true good v ss plan are =
 
 -- ---- they are apart
 
-front : {X : Type 0} (P : X → Type 0) (xs : List X) (x : X) → All P (xs ++ x ∷ []) → All P xs × P x
-front P xs x all = (
-  λ k d low. rw (get_or_append_left xs (x ∷ []) d k low) at (all k d (omega (arith, length_push xs x))),
-  rw (get_or_push xs x x (length xs) refl) at (all (length xs) x (omega (arith, length_push xs x))),
-)
-
 pub joined_apart : (v : Values) (ss : List Slip) → AreSound v ss → AreApart v (joined v ss)
 joined_apart v ss sound =
     (by_slips v (IsSound v) (λ pre js. AreApart v js × ((y : Slip) → All (Precedes y) pre → All (Precedes y) js))
     ((λ i d within. absurd (omega (arith, within))), λ y all. all)
     (λ pre js x before own is. (
       with_apart v x js (All-weaker (Precedes x) _ (λ s last. last.ends) js (is.1 x before)) is.0,
-      λ y all. (let parts = front (Precedes y) pre x all in
-          with_all v x (Precedes y) (λ s adjoin one. grind (arith, adjoin, one, parts.1)) parts.1 js (is.1 y parts.0)),
+      λ y all. (let own : Precedes y x = rw (get_or_push pre x x (length pre) refl) at
+          (all (length pre) x (omega (arith, length_push pre x))) in
+          with_all v x (Precedes y) (λ s adjoin one. grind (arith, adjoin, one, own)) own js (is.1 y (All-first (Precedes y) pre (x ∷ []) all))),
     )) ss sound sound.each).1.1.0
 
 -- ---- sums of a cell

@@ -30,7 +30,7 @@ pub use Rattle.cut_shares.specs.join.inside.Merging.{AreAscending, IsSmall, adjo
 pub use Rattle.cut_shares.specs.share.Blocks.{AreNumbered, begins_block, block_of}
 pub use Rattle.cut_shares.specs.share.Running.{AreOfShare, CanRun, EndsShare, is_lacking}
 pub use Rattle.cut_shares.specs.share.Share.{IsShareSlip, has_block, is_in_share, trials_of_share}
-pub use Rattle.cut_shares.specs.share.inside.Batches.{AreWithin, EndsPieces, IsUpTo, IsWhole}
+pub use Rattle.cut_shares.specs.share.inside.Batches.{AreParted, AreWithin, EndsPieces, IsUpTo, IsWhole}
 pub use Rattle.cut_shares.specs.share.inside.Pieces.{IsSharePiece, own_times, own_trials, trials_in_all}
 pub use Rattle.cut_shares.specs.share.inside.Running.{IsFaultOfOpening, slip_at, slips_at}
 pub use Rattle.cut_shares.specs.share.inside.Tasks.{IsRun, done_of, has_result, lost_of, pieces_of}
