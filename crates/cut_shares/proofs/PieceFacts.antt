@@ -1,17 +1,9 @@
 -- Pieces of a plan, and the parts that they are cut into.
-use Rattle.std.proofs.Common.{◌≡◌, ℕ, ◌+◌, ◌-◌, ◌%◌, ◌<◌, ◌≤◌, ◌&&◌, true}
-use Rattle.std.proofs.Common.{nat_lt, ap, ◌∙◌, arith}
-use Rattle.std.specs.Prelude.{IsTrue}
-use Rattle.std.proofs.lemmas.Bool.{lt-ltb, le-leb}
-use Rattle.cut_plan.specs.Plan.{IsPlan}
-use Rattle.cut_plan.specs.Values.{Values}
-use Rattle.cut_outcome.specs.declared.piece.Piece.{Piece}
-use Rattle.cut_outcome.specs.Sum.{is_piece}
-use Rattle.cut_ledger.specs.Contents.{is_in}
+use Rattle.std.proofs.Common.{◌≡◌, ℕ, ◌+◌, ◌-◌, ◌%◌, ◌<◌, ◌≤◌, true, arith}
+use Rattle.cut_lists.proofs.Intervals.{within_is}
 use Rattle.cut_ledger.proofs.CellLemmas.{cell_is, piece_facts}
-use Rattle.cut_shares.specs.declared.share.share.Share.{Share}
-use Rattle.cut_shares.specs.share.Share.{is_in_share}
 use Rattle.cut_shares.proofs.Counting.{in_block}
+use Rattle.cut_shares.proofs.Words.{IsPlan, IsTrue, Piece, Share, Values, is_in, is_in_share, is_piece}
 
 -- a part of a piece is one
 pub part_is_piece : (v : Values) (p q : Piece) → IsPlan v → IsTrue (is_piece v p) → 1 ≤ q.count → p.first ≤ q.first
@@ -28,5 +20,4 @@ alike_in_block s v p n t plan piece few near from below =
 
 -- its trials are those that are in it
 pub in_trials : (p : Piece) (t : ℕ) → p.first ≤ t → t < p.first + p.count → is_in p t ≡ true
-in_trials p t from below =
-    ap (λ x. x && nat_lt t (p.first + p.count)) (le-leb p.first t from) ∙ lt-ltb t (p.first + p.count) below
+in_trials p t from below = within_is p.first (p.first + p.count) t from below

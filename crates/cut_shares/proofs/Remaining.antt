@@ -1,12 +1,6 @@
 -- What is left of the pieces of a share.
 use Rattle.std.proofs.Common.{◌≡◌, ℕ, ◌+◌, true, false, [], ◌∷◌, arith}
-use Rattle.cut_plan.specs.Values.{Values}
-use Rattle.cut_outcome.specs.declared.piece.Piece.{Piece}
-use Rattle.cut_outcome.specs.Outcome.{one_if}
-use Rattle.cut_ledger.specs.Contents.{is_in}
-use Rattle.cut_shares.specs.declared.share.share.Share.{Share}
-use Rattle.cut_shares.specs.share.Share.{is_in_share}
-use Rattle.cut_shares.specs.share.inside.Pieces.{own_times}
+use Rattle.cut_shares.proofs.Words.{Piece, Share, Values, is_in, is_in_share, one_if, own_times}
 
 -- a block of the share that is taken off, or one of another
 pub block_taken : (s now : Share) (v w : Values) (p q rest : Piece) (t : ℕ) → now ≡ s → w ≡ v
