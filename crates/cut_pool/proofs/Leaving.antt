@@ -1,24 +1,25 @@
 -- The disks that runs leave.
 use Rattle.std.proofs.Common.{◌≡◌, ◌∙◌, ◌++◌, ℕ, Bool, true, false, List, [], ◌∷◌, Option, Some, None, Result, Ok, Err, refl, sym, ap}
-use Rattle.std.proofs.Common.{IfSome, IsOk, IsErrOf, IsSome, IsTrue, All, is_some, cond, append-nil, length, take, subst, arith}
+use Rattle.std.proofs.Common.{IfSome, IsOk, IsErrOf, All, is_some, cond, append-nil, length, subst, arith}
 use Rattle.std.specs.Prelude.{IfErr, IfOk, OnOk, Vec}
 use Rattle.std.proofs.lemmas.List.{take_all}
 use Rattle.cut_plan.specs.Plan.{IsPlan}
 use Rattle.cut_plan.specs.Values.{Values}
-use Rattle.cut_disks.specs.State.{DiskState, IsImage}
+use Rattle.cut_disks.specs.State.{DiskState}
 use Rattle.cut_disks.specs.Log.{DiskLog, IsKnown, is_known, on}
 use Rattle.cut_ledger.specs.declared.slip.Slip.{Slip}
 use Rattle.cut_ledger.specs.Contents.{is_complete}
-use Rattle.cut_ledger.specs.Machine.{StudyState, some_slip}
-use Rattle.cut_journal.specs.Journal.{JournalValue, IsFileOf, ReadsAs, kept_slips}
+use Rattle.cut_ledger.specs.Machine.{StudyState}
+use Rattle.cut_journal.specs.Journal.{JournalValue, IsFileOf, kept_slips}
 use Rattle.cut_journal.specs.Laws.{IsJournalOf}
 use Rattle.cut_journal.specs.Reading.{reading}
 use Rattle.cut_book.specs.declared.call.Call.{Call}
 use Rattle.cut_book.specs.Book.{BookValue, failed_since, failures_of, opening_of}
 use Rattle.cut_book.specs.History.{Opening, LeadsTo, accepted_slips, opened_by}
-use Rattle.cut_book.specs.Kept.{AreAllOfStudy, AreOfStudy, IsLeftWith, StudiesTakeTheirOwn, TakesOwn, disk_start_of}
+use Rattle.cut_book.specs.Kept.{IsLeftWith, StudiesTakeTheirOwn, TakesOwn, disk_start_of}
 use Rattle.cut_book.specs.Kept.{doubtful_in, is_known_in}
 use Rattle.cut_slots.specs.Report.{SlotEnd}
+use Rattle.cut_slots.specs.declared.not_closed.NotClosed.{NotClosed}
 use Rattle.cut_slots.specs.Start.{IsLeftOf, StudyStart, start_of}
 use Rattle.cut_hall.specs.Closing.{IsStudyEnd}
 use Rattle.cut_wires.specs.declared.rows.RowsFault.{RowsFault}
@@ -27,10 +28,11 @@ use Rattle.cut_pool.specs.declared.run_fault.RunFault.{RunFault}
 use Rattle.cut_pool.specs.declared.run_fault.RunFault.TheVariants.{BadSlip, Checkpoint, Write, WorkMemory}
 use Rattle.cut_pool.specs.declared.run_fault.RunFault.TheVariants.{AuditMismatch}
 use Rattle.cut_pool.specs.declared.study_run.Done.{Done}
-use Rattle.cut_pool.specs.Leaving.{KeepsSlips, LeavesDisk, LeavesRun}
+use Rattle.cut_pool.specs.Leaving.{KeepsSlips, LeavesDisk}
 use Rattle.cut_pool.specs.Running.{slips_of}
 use Rattle.cut_pool.specs.inside.Conclusion.{Concludes, IsNotBegun}
-use Rattle.cut_pool.specs.inside.Leaving.{IsDiskOf, LeavesBegun, LeavesJournal, journal_in}
+use Rattle.cut_pool.specs.inside.Faults.{closed_as}
+use Rattle.cut_pool.specs.inside.Leaving.{IsDiskOf, LeavesBegun, journal_in}
 
 -- ---- a hall that was closed
 
@@ -47,6 +49,11 @@ pub end_as : {D E F : Type 0} (log_of : D → DiskLog) (start : Option StudyStar
 end_as log_of None closed now is_broken left same end = tt
 end_as log_of (Some s) closed now is_broken left same end =
     (end.0, (end.1.0, carried (λ (slots : List SlotEnd). slots ≡ end.0 ∷ []) closed now same end.1.1))
+
+pub as_closed : {T : Type 0} (closed : Result (List SlotEnd) (NotClosed T))
+    → IfOk (closed_as closed) (λ report. closed ≡ Ok report)
+as_closed (Ok report) = refl
+as_closed (Err not_closed) = tt
 
 -- what a book that was opened says is said of the one that is handed on
 pub opened_as : {B E F P Q : Type 0} (book : Result B E) (now : Result B F) (f : E → F)

@@ -5,6 +5,7 @@
 //! arguments.
 #![tactic(auto)]
 
+mod conclusion;
 mod emit;
 mod private_hall;
 mod run_fault;

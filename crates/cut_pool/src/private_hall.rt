@@ -4,21 +4,22 @@ ghost use Rattle.atomic_table.specs.Seated.{TableId};
 ghost use Rattle.cut_plan.specs.Cells.{cells_of};
 ghost use Rattle.cut_ledger.specs.Table.{table_over};
 ghost use Rattle.cut_ledger.specs.Slips.{AreGood};
-ghost use Rattle.cut_pool.specs.inside.Conclusion.{IsNotEnded};
 ghost use Rattle.cut_pool.specs.inside.Emission.{EmitsStudy};
 ghost use Rattle.cut_slots.specs.Report.{calls_in_all};
 ghost use Rattle.cut_slots.specs.Start.{AreOpenedWith, start_of};
 ghost use Rattle.cut_hall.specs.Closing.{IsStudyEnd};
-ghost use Rattle.cut_pool.specs.inside.Faults.{of_closing};
 ghost use Rattle.cut_book.specs.Book.{IsFresh};
+ghost use Rattle.cut_pool.specs.Running.{HasEnded, Takes};
+ghost use Rattle.cut_pool.specs.inside.Leaving.{LeavesBegun};
 ghost use Rattle.cut_slots.specs.Trust.{begun_props};
 
 use crate::RunFault;
+use crate::conclusion::{conclude_run, disk_of};
 use crate::emit::{EmitFault, StudyRows, emit};
+use crate::study_run::EndedRun;
 use cut_book::{Book, Opened};
 use cut_disks::Disk;
-use cut_hall::{Blanks, CallLedger, ClosedStudy, Gate, Hall, NotClosed, Pass, Report};
-use cut_journal::Journal;
+use cut_hall::{Blanks, CallLedger, ClosedStudy, Gate, Hall, NotClosed, Pass};
 use cut_wires::Wire;
 use std::alloc::{AllocError, Global};
 use std::sync::Wait;
@@ -39,19 +40,10 @@ pub(crate) struct OpenedStudy<D: Disk> {
 
 /// What a worker works with, beside its pass.
 #[derive(Clone, Copy)]
-struct Env<'a, R, G> {
-    rt: &'a R,
-    alloc: Global,
-    gate: &'a G,
-}
-
-/// How the hall of a study ended: its report, or why it was not closed; whether an append of the study failed; and its
-/// journal, if it had one.
-#[derive(Drop)]
-pub(crate) struct EndedHall<D: Disk> {
-    pub(crate) report: Result<Report, RunFault>,
-    pub(crate) is_broken: bool,
-    pub(crate) journal: Option<Journal<D>>,
+pub(crate) struct Env<'a, R, G> {
+    pub(crate) rt: &'a R,
+    pub(crate) alloc: Global,
+    pub(crate) gate: &'a G,
 }
 
 /// The passes of a study's workers: that of the thread that writes, and those of all others.
@@ -64,8 +56,8 @@ struct WorkerPasses<M: CallLedger> {
 /// A hall whose only slot has a study, with the passes of its workers.
 #[derive(Drop)]
 pub(crate) struct PrivateHall<D: Disk, M: CallLedger, K: CallLedger> {
-    pub(crate) hall: Hall<D, M, K>,
-    pub(crate) opened: Opened,
+    hall: Hall<D, M, K>,
+    opened: Opened,
     crew: WorkerPasses<M>,
     ghost one_slot: { hall.slots ≡ 1 },
     ghost its_slot: { opened.study ≡ 0 },
@@ -74,9 +66,56 @@ pub(crate) struct PrivateHall<D: Disk, M: CallLedger, K: CallLedger> {
 }
 
 impl<D: Disk + Drop, M: CallLedger, K: CallLedger> PrivateHall<D, M, K> {
+    /// Runs a study that has begun, in a hall of its own: by workers in threads of their own, and by this thread, which
+    /// writes the table. The blanks are as for `open`.
+    pub(crate) fn run<W, G, R>(
+        env: Env<'_, R, G>,
+        begun: OpenedStudy<D>,
+        blanks: Blanks,
+        wire: &mut W,
+    ) -> EndedRun<D>
+    where
+        D: Send,
+        M: Send + Sync,
+        K: Send + Sync,
+        W: Wire,
+        G: Gate + Sync,
+        R: Threads + Wait + Sync,
+        requires untrusted { K.trusts ≡ false }
+        requires made { (blanks.made.name ≡ M.name) × (blanks.made.parts ≡ M.parts)
+            × (M.all ≡ M.parts) × (M.all ≡ begun.workers) }
+        requires kept { (blanks.kept.name ≡ K.name) × (blanks.kept.parts ≡ K.parts)
+            × (K.all ≡ K.parts) × (K.all ≡ 1) × (K.opening ≡ Some (start_of D.log begun.book)) }
+        ensures ended { HasEnded begun.book.state.ledger.plan begun.book.state.ledger.base
+            begun.book.state.has_journal begun.book.size result.ended }
+        ensures takes { Takes begun.book.state.ledger.plan begun.book.state.ledger.base result.ended
+            (W.log wire.old) (W.log wire.new) }
+        ensures left { LeavesBegun D.log begun.book result.ended result.disk }
+    {
+        let alloc = env.alloc;
+        match PrivateHall::<D, M, K>::open(alloc, begun, blanks) {
+            Ok(study) => {
+                let PrivateHall {
+                    hall,
+                    opened,
+                    mut crew,
+                } = study;
+                let sent = crew.stream(env, &hall, &opened, wire);
+                conclude_run(sent, crew.close(alloc, hall))
+            }
+            Err(book) => {
+                let (_history, journal) = book.into_parts();
+                EndedRun {
+                    ended: Err(RunFault::WorkMemory),
+                    disk: disk_of(journal),
+                }
+            }
+        }
+    }
+
     /// The hall of a study that has begun. The blanks are for the two ledgers of calls, of which the first has a part
     /// for each worker, and the second has one part. If memory runs out the book comes back as it was.
-    pub(crate) fn open(
+    fn open(
         alloc: Global,
         begun: OpenedStudy<D>,
         blanks: Blanks,
@@ -113,42 +152,6 @@ impl<D: Disk + Drop, M: CallLedger, K: CallLedger> PrivateHall<D, M, K> {
             Err(book) => Err(book),
         }
     }
-
-    /// Lets the other workers work, each in a thread of its own where one can be made, and writes the table in this
-    /// one, which works too while a line is not there. Then closes the hall. Returns how either ended.
-    pub(crate) fn run<'a, W, G, R>(
-        self,
-        rt: &'a R,
-        alloc: Global,
-        wire: &mut W,
-        gate: &'a G,
-    ) -> (Result<u64, EmitFault>, EndedHall<D>)
-    where
-        D: Send,
-        M: Send + Sync,
-        K: Send + Sync,
-        W: Wire,
-        G: Gate + Sync,
-        R: Threads + Wait + Sync,
-        requires ledgers { (M.all ≡ M.parts) × (K.all ≡ K.parts) }
-        ensures emits { EmitsStudy (table_over self.opened.plan self.opened.base) result.0
-            (W.log wire.old) (W.log wire.new) }
-        ensures one { IfOk result.1.report (λ report. length report ≡ 1) }
-        ensures opened { IfOk result.1.report (λ report. AreOpenedWith self.hall.opening report) }
-        ensures calls { OnOk result.0 (IfOk result.1.report
-            (λ report. length (cells_of self.opened.plan) ≤ calls_in_all report)) }
-        ensures why { IfErr result.1.report IsNotEnded }
-        ensures ends { IsStudyEnd D.log self.hall.opening result.1.report result.1.is_broken result.1.journal }
-    {
-        let PrivateHall {
-            hall,
-            opened,
-            mut crew,
-        } = self;
-        let tools = Env { rt, alloc, gate };
-        let sent = stream(tools, &hall, &opened, &mut crew, wire);
-        (sent, close_hall(alloc, hall, crew))
-    }
 }
 
 /// What is opened of a book in the only slot of a hall.
@@ -165,54 +168,83 @@ fn opened_of<D: Disk + Drop>(alloc: Global, book: &Book<D>) -> Result<Opened, Al
     })
 }
 
-/// Lets the other workers work in threads of their own, and writes the table in this one. Once it is written, or can't
-/// be, the hall is stopped.
-fn stream<D, M, K, W, G, R>(
-    tools: Env<'_, R, G>,
-    hall: &Hall<D, M, K>,
-    opened: &Opened,
-    crew: &mut WorkerPasses<M>,
-    wire: &mut W,
-) -> Result<u64, EmitFault>
-where
-    D: Disk + Drop + Send,
-    M: CallLedger + Send + Sync,
-    K: CallLedger + Send + Sync,
-    W: Wire,
-    G: Gate + Sync,
-    R: Threads + Wait + Sync,
-    requires slot { opened.now.study < hall.now.slots }
-    requires others { All (λ p. p.hall ≡ hall.now.id) crew.old.others.items }
-    requires writer { crew.old.writer.hall ≡ hall.now.id }
-    ensures emits { EmitsStudy (table_over opened.now.plan opened.now.base) result
-        (W.log wire.old) (W.log wire.new) }
-    ensures others { All (λ p. p.hall ≡ hall.now.id) crew.new.others.items }
-    ensures writer { crew.new.writer.hall ≡ hall.now.id }
-    ensures made { OnOk result (length (cells_of opened.now.plan) ≤ crew.new.writer.made) }
-{
-    let Env { rt, alloc, gate } = tools;
-    let WorkerPasses { writer, others } = crew;
-    let mut write = || -> Result<u64, EmitFault>
-        requires own { writer.now.hall ≡ hall.now.id }
+impl<M: CallLedger> WorkerPasses<M> {
+    /// Lets the other workers work in threads of their own, and writes the table in this one, which works too while a line
+    /// is not there. Once the table is written, or can't be, the hall is stopped.
+    fn stream<D, K, W, G, R>(
+        &mut self,
+        env: Env<'_, R, G>,
+        hall: &Hall<D, M, K>,
+        opened: &Opened,
+        wire: &mut W,
+    ) -> Result<u64, EmitFault>
+    where
+        D: Disk + Drop + Send,
+        M: Send + Sync,
+        K: CallLedger + Send + Sync,
+        W: Wire,
+        G: Gate + Sync,
+        R: Threads + Wait + Sync,
         requires slot { opened.now.study < hall.now.slots }
-        ensures emits { EmitsStudy (table_over opened.entry.now.plan opened.entry.now.base) result
-            (W.log wire.entry.now) (W.log wire.exit.now) }
-        ensures own { writer.exit.now.hall ≡ hall.entry.now.id }
-        ensures made { OnOk result (length (cells_of opened.entry.now.plan) ≤ writer.exit.now.made) }
+        requires others { All (λ p. p.hall ≡ hall.now.id) self.old.others.items }
+        requires writer { self.old.writer.hall ≡ hall.now.id }
+        ensures emits { EmitsStudy (table_over opened.now.plan opened.now.base) result
+            (W.log wire.old) (W.log wire.new) }
+        ensures others { All (λ p. p.hall ≡ hall.now.id) self.new.others.items }
+        ensures writer { self.new.writer.hall ≡ hall.now.id }
+        ensures made { OnOk result (length (cells_of opened.now.plan) ≤ self.new.writer.made) }
     {
-        let mut rows = StudyRows {
-            rt,
-            alloc,
-            hall,
-            opened,
-            pass: writer,
-            gate,
+        let Env { rt, alloc, gate } = env;
+        let WorkerPasses { writer, others } = self;
+        let mut write = || -> Result<u64, EmitFault>
+            requires own { writer.now.hall ≡ hall.now.id }
+            requires slot { opened.now.study < hall.now.slots }
+            ensures emits { EmitsStudy (table_over opened.entry.now.plan opened.entry.now.base) result
+                (W.log wire.entry.now) (W.log wire.exit.now) }
+            ensures own { writer.exit.now.hall ≡ hall.entry.now.id }
+            ensures made { OnOk result (length (cells_of opened.entry.now.plan) ≤ writer.exit.now.made) }
+        {
+            let mut rows = StudyRows {
+                rt,
+                alloc,
+                hall,
+                opened,
+                pass: writer,
+                gate,
+            };
+            let sent = emit(&mut rows, wire);
+            hall.stop(rt);
+            sent
         };
-        let sent = emit(&mut rows, wire);
-        hall.stop(rt);
-        sent
-    };
-    work_beside(tools, hall, others, &mut write)
+        work_beside(env, hall, others, &mut write)
+    }
+
+    /// Closes a hall with the passes of its workers. Passes are missing only if memory ran out.
+    fn close<D, K>(self, alloc: Global, hall: Hall<D, M, K>) -> ClosedStudy<D>
+    where
+        D: Disk + Drop,
+        K: CallLedger,
+        requires ledgers { (M.all ≡ M.parts) × (K.all ≡ K.parts) }
+        requires one { hall.slots ≡ 1 }
+        requires others { All (λ p. p.hall ≡ hall.id) self.others.items }
+        requires writer { self.writer.hall ≡ hall.id }
+        ensures slots { IfOk result.report (λ report. length report ≡ 1) }
+        ensures opened { IfOk result.report (λ report. AreOpenedWith hall.opening report) }
+        ensures calls { IfOk result.report (λ report. self.writer.made ≤ calls_in_all report) }
+        ensures ends { IsStudyEnd D.log hall.opening result.report result.is_broken result.journal }
+    {
+        let WorkerPasses {
+            writer,
+            others: mut passes,
+        } = self;
+        match passes.push(writer) {
+            Ok(()) => hall.close_study(alloc, passes),
+            Err(_refused) => ClosedStudy {
+                report: Err(NotClosed::Memory),
+                ..hall.close_study(alloc, passes)
+            },
+        }
+    }
 }
 
 /// A hall as the threads of workers share it.
@@ -265,7 +297,7 @@ where
 /// Lets each pass work in a thread of its own, and writes in this one meanwhile. If no thread can be made, they find
 /// nothing left to do once it has written.
 fn work_beside<S, G, R, F>(
-    tools: Env<'_, R, G>,
+    env: Env<'_, R, G>,
     hall: &S,
     passes: &mut Vec<Pass<S::Made>>,
     write: &mut F,
@@ -281,7 +313,7 @@ where
     ensures own { All (λ p. p.hall ≡ S.id_of hall.now) passes.new.items }
     ensures write { F.step write.old result write.new }
 {
-    let Env { rt, alloc, gate } = tools;
+    let Env { rt, alloc, gate } = env;
     let mut work = ||
         requires { S.has_slot hall.now × All (λ p. p.hall ≡ S.id_of hall.now) passes.now.items }
         ensures { All (λ p. p.hall ≡ S.id_of hall.entry.now) passes.exit.now.items }
@@ -315,76 +347,5 @@ where
     );
     if let Ok(worked) = worked {
         *passes = worked;
-    }
-}
-
-/// Closes a hall with the passes of its workers. Passes are missing only if memory ran out.
-fn close_hall<D, M, K>(alloc: Global, hall: Hall<D, M, K>, crew: WorkerPasses<M>) -> EndedHall<D>
-where
-    D: Disk + Drop,
-    M: CallLedger,
-    K: CallLedger,
-    requires ledgers { (M.all ≡ M.parts) × (K.all ≡ K.parts) }
-    requires one { hall.slots ≡ 1 }
-    requires others { All (λ p. p.hall ≡ hall.id) crew.others.items }
-    requires writer { crew.writer.hall ≡ hall.id }
-    ensures slots { IfOk result.report (λ report. length report ≡ 1) }
-    ensures opened { IfOk result.report (λ report. AreOpenedWith hall.opening report) }
-    ensures calls { IfOk result.report (λ report. crew.writer.made ≤ calls_in_all report) }
-    ensures why { IfErr result.report IsNotEnded }
-    ensures ends { IsStudyEnd D.log hall.opening result.report result.is_broken result.journal }
-{
-    let WorkerPasses {
-        writer,
-        others: mut passes,
-    } = crew;
-    match passes.push(writer) {
-        Ok(()) => ended_hall(hall.close_study(alloc, passes)),
-        Err(_refused) => {
-            let ClosedStudy {
-                is_broken,
-                journal,
-                ..
-            } = hall.close_study(alloc, passes);
-            EndedHall {
-                report: Err(RunFault::WorkMemory),
-                is_broken,
-                journal,
-            }
-        }
-    }
-}
-
-/// How the hall of a study ended, with the fault of a run where it was not closed.
-fn ended_hall<D: Disk + Drop>(closed: ClosedStudy<D>) -> EndedHall<D>
-    ensures report { IfOk result.report (λ report. closed.report ≡ Ok report) }
-    ensures why { IfErr result.report IsNotEnded }
-    ensures rest { (result.is_broken ≡ closed.is_broken) × (result.journal ≡ closed.journal) }
-{
-    let ClosedStudy {
-        report,
-        is_broken,
-        journal,
-    } = closed;
-    let report = match report {
-        Ok(report) => Ok(report),
-        Err(not_closed) => Err(fault_of_closing(not_closed)),
-    };
-    EndedHall {
-        report,
-        is_broken,
-        journal,
-    }
-}
-
-/// Why a run ended whose hall was not closed.
-fn fault_of_closing<T: Drop>(not_closed: NotClosed<T>) -> RunFault
-    ensures value { result ≡ of_closing not_closed }
-    ensures why { IsNotEnded result }
-{
-    match not_closed {
-        NotClosed::AuditMismatch(_mismatch) => RunFault::AuditMismatch,
-        NotClosed::Memory => RunFault::WorkMemory,
-        NotClosed::SeatMissing(_back) => RunFault::WorkMemory,
     }
 }

@@ -1,29 +1,26 @@
 ghost use Rattle.std.proofs.Props.{props};
-ghost use Rattle.std.specs.List.{list_all};
-ghost use Rattle.std.specs.Prelude.{false, Some, ◌≡◌, ◌+◌, ◌≤◌, Ok, Err, None, length, is_some, IfOk, IfErr, IfSome, OnOk};
+ghost use Rattle.std.specs.Prelude.{◌≡◌, ◌≤◌, Ok, Err, None, length, is_some, IfOk, IfErr, IfSome, OnOk};
 ghost use Rattle.cut_disks.specs.Log.{IsKnown, on};
 ghost use Rattle.cut_journal.specs.Reading.{reading};
 ghost use Rattle.cut_ledger.specs.Slips.{AreGood};
-ghost use Rattle.cut_pool.specs.inside.Conclusion.{IsNotBegun, IsNotEnded, CanLose, Concludes, conclusion};
-ghost use Rattle.cut_pool.specs.inside.Faults.{of_line};
+ghost use Rattle.cut_pool.specs.inside.Conclusion.{IsNotBegun};
 ghost use Rattle.cut_pool.specs.Running.{slips_of, HasEnded, Takes};
 ghost use Rattle.cut_book.specs.Book.{IsFresh, failures_of};
-ghost use Rattle.cut_slots.specs.Start.{start_of};
 ghost use Rattle.cut_pool.specs.Faults.{of_opening};
 ghost use Rattle.cut_pool.specs.Leaving.{LeavesDisk};
-ghost use Rattle.cut_pool.specs.inside.Leaving.{IsDiskOf, LeavesBegun, journal_in};
+ghost use Rattle.cut_pool.specs.inside.Leaving.{journal_in};
 
 use crate::RunFault;
-use crate::emit::EmitFault;
-use crate::private_hall::{EndedHall, OpenedStudy, PrivateHall};
+use crate::conclusion::disk_of;
+use crate::private_hall::{Env, OpenedStudy, PrivateHall};
 use cut_book::{Book, BookFault};
 use cut_disks::Disk;
-use cut_hall::{Blanks, CallLedger, Gate, NextRowFault, Report};
+use cut_hall::{Blanks, Gate, Report};
 use cut_journal::Journal;
 use cut_ledger::Slip;
 use cut_plan::{Plan, laws};
 use cut_status::trials_held;
-use cut_wires::{RowsFault, Wire};
+use cut_wires::Wire;
 use std::alloc::Global;
 use std::marker::Brand;
 use std::sync::Wait;
@@ -115,7 +112,8 @@ impl<D: Disk + Drop + Send> StudyRun<'_, D> {
                     made: Blank::new(u64::from(workers)),
                     kept: Blank::new(1),
                 };
-                run_begun::<D, Brand, Brand, W, G, R>(rt, alloc, begun, blanks, wire, gate)
+                let env = Env { rt, alloc, gate };
+                PrivateHall::<D, Brand, Brand>::run::<W, G, R>(env, begun, blanks, wire)
             }
             Err((fault, journal)) => EndedRun {
                 ended: Err(fault),
@@ -212,119 +210,5 @@ fn opened<D: Disk + Drop>(
     match book {
         Ok(book) => Ok(book),
         Err((fault, journal)) => Err((RunFault::from(fault), journal)),
-    }
-}
-
-/// The disk of a journal, if there is one.
-fn disk_of<D: Disk>(journal: Option<Journal<D>>) -> Option<D>
-    ensures { IsDiskOf D.log journal result }
-{
-    match journal {
-        Some(journal) => Some(journal.into_disk()),
-        None => None,
-    }
-}
-
-/// Runs a study that has begun, with the blanks of the two ledgers of calls.
-fn run_begun<'a, D, M, K, W, G, R>(
-    rt: &'a R,
-    alloc: Global,
-    begun: OpenedStudy<D>,
-    blanks: Blanks,
-    wire: &mut W,
-    gate: &'a G,
-) -> EndedRun<D>
-where
-    D: Disk + Drop + Send,
-    M: CallLedger + Send + Sync,
-    K: CallLedger + Send + Sync,
-    W: Wire,
-    G: Gate + Sync,
-    R: Threads + Wait + Sync,
-    requires untrusted { K.trusts ≡ false }
-    requires made { (blanks.made.name ≡ M.name) × (blanks.made.parts ≡ M.parts)
-        × (M.all ≡ M.parts) × (M.all ≡ begun.workers) }
-    requires kept { (blanks.kept.name ≡ K.name) × (blanks.kept.parts ≡ K.parts)
-        × (K.all ≡ K.parts) × (K.all ≡ 1) × (K.opening ≡ Some (start_of D.log begun.book)) }
-    ensures ended { HasEnded begun.book.state.ledger.plan begun.book.state.ledger.base begun.book.state.has_journal
-        begun.book.size result.ended }
-    ensures takes { Takes begun.book.state.ledger.plan begun.book.state.ledger.base result.ended
-        (W.log wire.old) (W.log wire.new) }
-    ensures left { LeavesBegun D.log begun.book result.ended result.disk }
-{
-    match PrivateHall::<D, M, K>::open(alloc, begun, blanks) {
-        Ok(hall) => {
-            let (sent, closed) = hall.run(rt, alloc, wire, gate);
-            conclude_run(sent, closed)
-        }
-        Err(book) => {
-            let (_history, journal) = book.into_parts();
-            EndedRun {
-                ended: Err(RunFault::WorkMemory),
-                disk: disk_of(journal),
-            }
-        }
-    }
-}
-
-/// How a run ended, by how the writing of its table ended and how its hall was closed. A write that failed is reported
-/// before anything else. If all was written, the report is looked at once more: every trial has to be held.
-fn conclude_run<D: Disk>(sent: Result<u64, EmitFault>, closed: EndedHall<D>) -> EndedRun<D>
-    requires { IfErr closed.report IsNotEnded }
-    ensures concludes { Concludes sent closed.report closed.is_broken result.ended }
-    ensures disk { IsDiskOf D.log closed.journal result.disk }
-{
-    let EndedHall {
-        report,
-        is_broken,
-        journal,
-    } = closed;
-    EndedRun {
-        ended: conclusion(sent, report, is_broken),
-        disk: disk_of(journal),
-    }
-}
-
-/// What a run answers, by how the writing of its table ended, how its hall was closed, and whether an append failed.
-fn conclusion(
-    sent: Result<u64, EmitFault>,
-    closed: Result<Report, RunFault>,
-    is_broken: bool,
-) -> Result<Done, RunFault>
-    requires { IfErr closed IsNotEnded }
-    ensures answer { result ≡ conclusion sent closed is_broken }
-    ensures concludes { Concludes sent closed is_broken result }
-{
-    match sent {
-        Ok(sent) => match closed {
-            Ok(report) if is_complete(&report) => Ok(Done { sent, report }),
-            Ok(_incomplete) => Err(RunFault::AuditMismatch),
-            Err(fault) => Err(fault),
-        },
-        Err(RowsFault::Write(fault)) => Err(RunFault::Write(fault)),
-        Err(RowsFault::Row(fault)) => Err(fault_of_line(fault, closed.err(), is_broken)),
-    }
-}
-
-/// Whether every trial was held at the end of each slot.
-fn is_complete(report: &Report) -> bool
-    ensures { result ≡ list_all (λ slot. slot.complete) report.now }
-{
-    report.slots().iter().all(|slot| slot.complete())
-}
-
-/// What a run answers if a line did not come. Where calls can be counted no further, that is a mismatch of the audit,
-/// unless the hall could not be closed either. No checkpoint fails of a study that is not broken: a slot that says so has
-/// not the study's book.
-fn fault_of_line(fault: NextRowFault, not_closed: Option<RunFault>, is_broken: bool) -> RunFault
-    requires { IfSome not_closed IsNotEnded }
-    ensures value { result ≡ of_line fault not_closed is_broken }
-    ensures can { CanLose result is_broken }
-{
-    match fault {
-        NextRowFault::WorkMemory => RunFault::WorkMemory,
-        NextRowFault::Checkpoint if is_broken => RunFault::Checkpoint,
-        NextRowFault::Stopped => not_closed.unwrap_or(RunFault::AuditMismatch),
-        _ => RunFault::AuditMismatch,
     }
 }

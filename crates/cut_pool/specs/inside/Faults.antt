@@ -1,9 +1,10 @@
 -- What only the crate's own clauses and proofs cite, beside specs/Faults.antt.
-use Rattle.std.specs.Prelude.{Bool, true, false, Option, unwrap_or}
+use Rattle.std.specs.Prelude.{Bool, true, false, List, Option, Result, Ok, Err, unwrap_or}
 use Rattle.cut_slots.specs.declared.next_row_fault.NextRowFault.{NextRowFault}
 use Rattle.cut_slots.specs.declared.next_row_fault.NextRowFault.TheVariants as line
 use Rattle.cut_slots.specs.declared.not_closed.NotClosed.{NotClosed}
 use Rattle.cut_slots.specs.declared.not_closed.NotClosed.TheVariants as closing
+use Rattle.cut_slots.specs.Report.{SlotEnd}
 use Rattle.cut_pool.specs.declared.run_fault.RunFault.{RunFault}
 use Rattle.cut_pool.specs.declared.run_fault.RunFault.TheVariants as run
 
@@ -21,3 +22,8 @@ abbrev pub of_closing : {T : Type 0} → NotClosed T → RunFault
 of_closing (closing.AuditMismatch mismatch) = run.AuditMismatch
 of_closing closing.Memory = run.WorkMemory
 of_closing (closing.SeatMissing back) = run.WorkMemory
+
+-- the report of a hall that was closed, or why a run ends whose hall was not
+abbrev pub closed_as : {T : Type 0} → Result (List SlotEnd) (NotClosed T) → Result (List SlotEnd) RunFault
+closed_as (Ok report) = Ok report
+closed_as (Err not_closed) = Err (of_closing not_closed)

@@ -1,5 +1,5 @@
 -- What only the crate's own clauses and proofs cite, beside specs/Leaving.antt.
-use Rattle.std.specs.Prelude.{◌≡◌, ◌≤◌, ℕ, true, List, Option, Some, None, IfErr, IsOk, IsErrOf, Result, Ok, Err, Vec, ⊤}
+use Rattle.std.specs.Prelude.{◌≡◌, true, List, Option, Some, None, IsOk, IsErrOf, Result, Vec, ⊤}
 use Rattle.cut_disks.specs.Log.{DiskLog, IsKnown, on}
 use Rattle.cut_ledger.specs.declared.slip.Slip.{Slip}
 use Rattle.cut_ledger.specs.Contents.{is_complete}
