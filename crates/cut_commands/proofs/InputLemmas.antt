@@ -1,5 +1,5 @@
 -- A buffer after several reads into it, and the plan that is read so.
-use Rattle.std.proofs.Common.{◌≡◌, ℕ, ◌+◌, ◌≤◌, ◌<◌, false, List, [], ◌++◌, Ok}
+use Rattle.std.proofs.Common.{◌≡◌, ℕ, ◌+◌, ◌≤◌, ◌<◌, false, List, [], ◌++◌}
 use Rattle.std.proofs.Common.{Err, length, nat_lt, take, refl, sym, ap, ◌∙◌, arith, length-append, inl}
 use Rattle.std.specs.Prelude.{IsErrOf}
 use Rattle.std.specs.Str.{is_utf8}

@@ -7,7 +7,7 @@ use Rattle.std.specs.Prelude.{Vec, option_map}
 use Rattle.cut_plan.specs.Accepted.{plan_of}
 use Rattle.cut_plan.specs.Plan.{IsPlan}
 use Rattle.cut_plan.specs.Values.{Values}
-use Rattle.cut_disks.specs.Log.{DiskLog, Goes, IsKnown, is_known, on}
+use Rattle.cut_disks.specs.Log.{DiskLog, Goes}
 use Rattle.cut_files.specs.Place.{Place}
 use Rattle.cut_ledger.specs.declared.slip.Slip.{Slip}
 use Rattle.cut_ledger.specs.Laws.{TrueSlipsAreGood, TrueSlipsGiveTheTable, NoSlipsAreTrue}
@@ -15,6 +15,7 @@ use Rattle.cut_ledger.specs.Table.{table_over}
 use Rattle.cut_ledger.specs.Slips.{AreGood}
 use Rattle.cut_ledger.specs.World.{AreTrue}
 use Rattle.cut_ledger.proofs.SlipLemmas.{none_bad}
+use Rattle.cut_journal.specs.declared.fault.JournalFault.TheVariants as journal
 use Rattle.cut_journal.specs.Journal.{JournalValue}
 use Rattle.cut_journal.specs.Opening.{IsOpened}
 use Rattle.cut_book.specs.Book.{failed_since}
@@ -28,13 +29,14 @@ use Rattle.cut_commands.specs.declared.fault.CliFault.{CliFault}
 use Rattle.cut_commands.specs.declared.fault.CliFault.TheVariants.{Memory, Plan, Read, Journal, BadSlip, Checkpoint}
 use Rattle.cut_commands.specs.declared.fault.CliFault.TheVariants.{WorkMemory, AuditMismatch}
 use Rattle.cut_commands.specs.Faults.{fault_of_study}
-use Rattle.cut_commands.specs.Run.{GivesPlanFrom, IsPrefix, IsReadAs, LeavesStudy}
-use Rattle.cut_commands.specs.Study.{BeginsWith, IsTrueStore, IsStopped, KeepsOn, KeepsStudy, LeavesUnread, MayEnd}
-use Rattle.cut_commands.specs.Study.{RunsFrom, StudyWrites, StudyFails, StoreFails, study_task, table_task}
+use Rattle.cut_commands.specs.Run.{CommandAnswers, EndsCommandFrom, GivesPlanFrom, IsPrefix, IsReadAs, LeavesStudy}
+use Rattle.cut_commands.specs.Run.{LeavesUnread}
+use Rattle.cut_commands.specs.Study.{BeginsWith, IsTrueStore, IsStopped, KeepsOn, KeepsStudy, LeavesUnopened}
+use Rattle.cut_commands.specs.Study.{RunsFrom, StudyWrites, StudyFails, StoreFails, plain_task, study_task, table_task}
 use Rattle.cut_commands.specs.inside.Study.{IsNotOpened, IsOpenedOver, MayLeave, RunsPlan}
 use Rattle.cut_wires.proofs.Logs.{wrote_none}
 use Rattle.cut_commands.proofs.RunLemmas.{Weakens, ends_unread, leaves_nothing}
-use Rattle.cut_commands.proofs.Sources.{ends_read, ends_read_as, ends_refused_text}
+use Rattle.cut_commands.proofs.Sources.{ends_from_read, ends_from_unread, ends_read, ends_read_as, ends_refused_text}
 
 -- ---- what a study keeps
 
@@ -259,7 +261,7 @@ module _ (laws : (text : List ℕ) (v : Values) → plan_of text ≡ Ok v → Is
     (gives : TrueSlipsGiveTheTable) (none : NoSlipsAreTrue) (plan : Option Place) (disk : Option DiskLog) where
   unread_kept : (back : Option DiskLog) (v : Values) (old mid new : WireLog) (fault : CliFault)
       → GivesPlanFrom plan (Ok v) old mid → RunsPlan v disk back mid new (Err fault)
-      → LeavesUnread plan fault disk back old new
+      → LeavesUnread (λ v. LeavesUnopened v journal.Memory) plan fault disk back old new
   unread_kept back v old mid new Read given is = absurd is.unopened
   unread_kept back v old mid new (Plan refusal) given is = absurd is.unopened
   unread_kept back v old mid new Memory given is =
@@ -281,14 +283,15 @@ module _ (laws : (text : List ℕ) (v : Values) → plan_of text ≡ Ok v → Is
       })
     where
       by : (ended : Result ⊤ CliFault) → RunsPlan v disk back mid new ended
-          → IfErr ended (λ fault. LeavesUnread plan fault disk back old new)
+          → IfErr ended (λ fault. LeavesUnread (λ v. LeavesUnopened v journal.Memory) plan fault disk back old new)
       by (Ok done) is = tt
       by (Err fault) is = unread_kept back v old mid new fault given is
 
 -- ---- its plan was not read
 
 unread_same : (plan : Option Place) (fault : CliFault) (disk : Option DiskLog) (text : List ℕ) (ended : Bool)
-    (old new : WireLog) → IsReadAs text ended (Err fault) → LeavesUnread plan fault disk disk old new
+    (old new : WireLog) → IsReadAs text ended (Err fault)
+    → LeavesUnread (λ v. LeavesUnopened v journal.Memory) plan fault disk disk old new
 unread_same plan Memory disk text ended old new is = inl refl
 unread_same plan Read disk text ended old new is = refl
 unread_same plan (Plan refusal) disk text ended old new is = refl
@@ -308,4 +311,14 @@ runs_unread (Some place) fault disk old new given = elim given [
     unread = unread_same (Some place) fault disk read.0 (nat_lt (length read.0) 65537) old new read.1.1;
   })
   | inr unread ↦ inr (refl, unread)
+]
+
+-- ---- without a disk
+
+-- it has the table of its plan
+pub plain_ends : (plan : Option Place) (back : Option DiskLog) (old new : WireLog) (ended : Result ⊤ CliFault)
+    → RunsFrom None back plan old new ended → EndsCommandFrom plain_task plan old new ended
+plain_ends plan back old new ended runs = elim runs [
+  | inl over ↦ ends_from_read (CommandAnswers plain_task) plan old new ended (over.table tt)
+  | inr unread ↦ ends_from_unread (CommandAnswers plain_task) plan old new ended unread.1
 ]

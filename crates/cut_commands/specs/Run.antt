@@ -11,7 +11,9 @@ use Rattle.cut_plan.specs.declared.refusal.Refusal.TheVariants.{NotJson, PlanToo
 use Rattle.cut_plan.specs.Values.{Values}
 use Rattle.cut_plan.specs.Accepted.{plan_of}
 use Rattle.cut_wires.specs.Log.{WireLog, passing, wrote, read_failed, write_failed}
-use Rattle.cut_files.specs.Place.{Place, IsStart, MayNotRead}
+use Rattle.cut_disks.specs.Log.{DiskLog}
+use Rattle.cut_files.specs.Place.{Place, IsStart, MayNotOpen, MayNotRead, OpensAs, closed}
+use Rattle.cut_files.specs.declared.files.Mode.TheVariants.{Create}
 use Rattle.cut_files.specs.declared.files.OpenFault.{OpenFault}
 use Rattle.cut_commands.specs.declared.input.PlanSource.{PlanSource}
 use Rattle.cut_commands.specs.declared.input.PlanSource.TheVariants as source
@@ -207,6 +209,16 @@ GivesPlanFrom (Some place) result old new =
     ((text : List ℕ) × (IsPlanText place text × IsReadAs text (nat_lt (length text) TEXT_LIMIT) result × (new ≡ old)))
     ⊎ IsUnread place result old new
 
+-- what a command did not touch, such as a disk: it is as it was if a read failed or the text is no plan, and also if memory
+-- ran out, if the plan was not read then; if it was, it is left so by the next step of the command
+abbrev pub LeavesUnread : {T : Type 0} → (Values → T → T → Type 0) → Option Place → CliFault → T → T → WireLog → WireLog
+    → Type 0
+LeavesUnread left plan Read before after old new = after ≡ before
+LeavesUnread left plan (Plan refusal) before after old new = after ≡ before
+LeavesUnread left plan Memory before after old new =
+    (after ≡ before) ⊎ ((v : Values) × (GivesPlanFrom plan (Ok v) old new × left v before after))
+LeavesUnread left plan fault before after old new = ⊤
+
 -- an answer was written, or as many of its first bytes as are reported, when a write failed
 abbrev pub IsWritten : List ℕ → Result ⊤ CliFault → WireLog → WireLog → Type 0
 IsWritten whole (Ok done) old new = new ≡ wrote old whole
@@ -219,3 +231,13 @@ pub record LeavesStudy (task : Task) (v : Values) (result : Result ⊤ CliFault)
   pub written : List ℕ
   pub log : new ≡ failed_by result (wrote old written)
   pub answers : AnswersPlan task v result written
+
+-- ---- over a file
+
+-- how a command ends over what stands at a path, where it makes a file if there is none, and what stands there then: the
+-- file was opened, and shut with what its disk holds; or it was not opened, and nothing was read or written
+abbrev pub EndsOver : (DiskLog → DiskLog → Type 0) → Place → Place → WireLog → WireLog → Result ⊤ CliFault → Type 0
+EndsOver over place after old new result =
+    ((disk : DiskLog) × (back : DiskLog) × (OpensAs Create disk place × (after ≡ closed back place) × over disk back))
+    ⊎ ((fault : OpenFault) × (MayNotOpen Create fault place × (after ≡ place) × (result ≡ Err (fault_of_files fault))
+    × (new ≡ old)))

@@ -1,13 +1,12 @@
 -- What a study writes for a plan, and what it leaves on the disk of its checkpoint.
 use Rattle.std.specs.Prelude.{◌≡◌, ◌⊎◌, ◌++◌, ℕ, List, [], Option, Some, None, Result, Ok, Err, ⊤}
 use Rattle.std.specs.Prelude.{IfErr, IsOk, IsErrOf, IsSome, is_some}
+use Rattle.std.specs.Borrow.{Bor}
 use Rattle.cut_plan.specs.Values.{Values}
 use Rattle.cut_plan.specs.Plan.{IsPlan}
 use Rattle.cut_ledger.specs.lines.Lines.{table}
 use Rattle.cut_disks.specs.Log.{DiskLog, IsKnown, is_known, on}
-use Rattle.cut_files.specs.Place.{Place, MayNotOpen, OpensAs, closed}
-use Rattle.cut_files.specs.declared.files.Mode.TheVariants.{Create}
-use Rattle.cut_files.specs.declared.files.OpenFault.{OpenFault}
+use Rattle.cut_files.specs.Place.{Place, StaysElsewhere, while_open}
 use Rattle.cut_ledger.specs.declared.slip.Slip.{Slip}
 use Rattle.cut_ledger.specs.Machine.{some_slip}
 use Rattle.cut_ledger.specs.Table.{table_over}
@@ -23,11 +22,11 @@ use Rattle.cut_wires.specs.Log.{WireLog}
 use Rattle.cut_book.specs.Book.{failed_since}
 use Rattle.cut_book.specs.Kept.{AreOfStudy, AreAllOfStudy}
 use Rattle.cut_pool.specs.Leaving.{KeepsSlips}
-use Rattle.cut_commands.specs.Faults.{fault_of_files}
-use Rattle.cut_commands.specs.Run.{CommandAnswers, EndsRead, GivesPlanFrom, HasUnread}
+use Rattle.cut_commands.specs.Run.{CommandAnswers, EndsCommandFrom, EndsOver, EndsRead, HasUnread, LeavesUnread}
+use Rattle.cut_commands.specs.Run.{plan_place}
 use Rattle.cut_commands.specs.Task.{Task}
 use Rattle.cut_commands.specs.declared.fault.CliFault.{CliFault}
-use Rattle.cut_commands.specs.declared.fault.CliFault.TheVariants.{Memory, Plan, Read, Journal, BadSlip, Checkpoint}
+use Rattle.cut_commands.specs.declared.fault.CliFault.TheVariants.{Journal, BadSlip, Checkpoint}
 use Rattle.cut_commands.specs.declared.fault.CliFault.TheVariants.{WorkMemory, AuditMismatch}
 
 -- the whole table over slips with which a study can begin
@@ -136,23 +135,13 @@ StoreFails disk v fault = MayEnd fault
 abbrev pub table_task : Option DiskLog → Task
 table_task disk = record { answers = λ v whole. whole ≡ table v; fails = StoreFails disk }
 
--- the disk is untouched if a read failed or the text is no plan, and also if memory ran out, if the plan was not read
--- then; if it was, no journal was opened
-abbrev pub LeavesUnread : Option Place → CliFault → Option DiskLog → Option DiskLog → WireLog → WireLog → Type 0
-LeavesUnread plan Read disk back old new = back ≡ disk
-LeavesUnread plan (Plan refusal) disk back old new = back ≡ disk
-LeavesUnread plan Memory disk back old new =
-    (back ≡ disk)
-    ⊎ ((v : Values) × (GivesPlanFrom plan (Ok v) old new × LeavesUnopened v journal.Memory disk back))
-LeavesUnread plan fault disk back old new = ⊤
-
 -- how a study ends over a disk, by where its plan is read from, and what it leaves there: the table over the slips that the
 -- disk holds, which is the table of the plan if they are true
 pub record RunsOver (plan : Option Place) (ended : Result ⊤ CliFault) (disk back : Option DiskLog) (old new : WireLog)
     : Type 0 where
   pub command : EndsRead (CommandAnswers (study_task ended disk back)) plan old new ended
   pub table : IsTrueStore disk → EndsRead (CommandAnswers (table_task disk)) plan old new ended
-  pub unread : IfErr ended (λ fault. LeavesUnread plan fault disk back old new)
+  pub unread : IfErr ended (λ fault. LeavesUnread (λ v. LeavesUnopened v journal.Memory) plan fault disk back old new)
 
 -- the disk is untouched if the plan's file was not read
 abbrev pub RunsFrom : Option DiskLog → Option DiskLog → Option Place → WireLog → WireLog → Result ⊤ CliFault → Type 0
@@ -165,17 +154,25 @@ RunsOn disk old new ended = (back : Option DiskLog) × RunsFrom disk back None o
 
 -- ---- over a file
 
--- how it ends over what stands at a path, by where its plan is read from, and what stands there then: the file was opened,
--- and shut with what its disk holds; or it was not opened, and nothing was read or written
+-- how it ends over what stands at a path, by where its plan is read from
 abbrev pub EndsStudy : Option Place → Place → Place → WireLog → WireLog → Result ⊤ CliFault → Type 0
 EndsStudy plan place after old new result =
-    ((disk : DiskLog) × (back : DiskLog) × (OpensAs Create disk place × (after ≡ closed back place)
-    × RunsFrom (Some disk) (Some back) plan old new result))
-    ⊎ ((fault : OpenFault) × (MayNotOpen Create fault place × (after ≡ place) × (result ≡ Err (fault_of_files fault))
-    × (new ≡ old)))
+    EndsOver (λ disk back. RunsFrom (Some disk) (Some back) plan old new result) place after old new result
 
 -- ---- without a disk
 
 -- what is written is the table of the plan
 abbrev pub plain_task : Task
 plain_task = record { answers = λ v whole. whole ≡ table v; fails = λ v fault. MayEnd fault }
+
+-- ---- by the file that keeps it, if one does, and that of its plan
+
+-- how it ends, by what stands at each path before and after: without a file of its own the table is that of the plan, and
+-- every file stays
+abbrev pub EndsRun : Option (Bor (List ℕ)) → Option (Bor (List ℕ)) → (List ℕ → Place) → (List ℕ → Place) → WireLog
+    → WireLog → Result ⊤ CliFault → Type 0
+EndsRun None plan before after old new result =
+    EndsCommandFrom plain_task (plan_place before plan) old new result × (after ≡ before)
+EndsRun (Some file) plan before after old new result =
+    EndsStudy (plan_place (while_open file.now before) plan) (before file.now) (after file.now) old new result
+    × StaysElsewhere file.now before after

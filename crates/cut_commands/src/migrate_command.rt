@@ -7,9 +7,9 @@ ghost use Rattle.cut_commands.specs.NewStudy.{IsNewJournal};
 ghost use Rattle.cut_commands.specs.Run.{source_place};
 ghost use Rattle.cut_commands.specs.inside.Migrate.{EndsFilling, Fills, IsOldRefused, WritesCount};
 
-use crate::CliFault;
 use crate::input::PlanSource;
 use crate::output::{push_line, write_answer};
+use crate::{CliFault, Ended};
 use cut_disks::Disk;
 use cut_files::{Files, MemoryFiles, Mode};
 use cut_journal::Journal;
@@ -29,19 +29,11 @@ pub struct MigratedFiles<'a> {
     pub plan: Option<&'a str>,
 }
 
-/// Both disks of a migration, and how a step of it ended.
+/// Both disks of a migration.
 #[derive(Drop)]
-struct Migrated<O, N, T> {
+struct Disks<O, N> {
     old: O,
     new: N,
-    ended: Result<T, CliFault>,
-}
-
-/// The disk of a new study, and how many slips were moved there, or why not all were.
-#[derive(Drop)]
-struct Filled<N> {
-    disk: N,
-    count: Result<u64, CliFault>,
 }
 
 /// Reads a plan of version 1, moves the slips of its study from the file at one path to that at another, as a study of
@@ -78,9 +70,9 @@ pub fn migrate<F: Files, W: Wire>(
         }
     };
     let source = PlanSource::of(&*files, plan);
-    let Migrated { old, new, ended } = migrate_from(alloc, source, wire, old, new);
-    files.close(from, old);
-    files.close(to, new);
+    let Ended { disk, ended } = migrate_from(alloc, source, wire, Disks { old, new });
+    files.close(from, disk.old);
+    files.close(to, disk.new);
     ended
 }
 
@@ -93,7 +85,8 @@ where
     ensures { (disks : MigrateDisks) × (disks.old ≡ O.log old) × (disks.new ≡ N.log new)
         × MigratesFrom None disks (W.log wire.old) (W.log wire.new) result }
 {
-    migrate_from(alloc, PlanSource::<MemoryFiles>::Input, wire, old, new).ended
+    let source = PlanSource::<MemoryFiles>::Input;
+    migrate_from(alloc, source, wire, Disks { old, new }).ended
 }
 
 /// Moves a study from one disk to another, by a plan that is read from a wire or a file.
@@ -101,41 +94,35 @@ fn migrate_from<F, W, O, N>(
     alloc: Global,
     source: PlanSource<'_, F>,
     wire: &mut W,
-    old: O,
-    new: N,
-) -> Migrated<O, N, ()>
+    disks: Disks<O, N>,
+) -> Ended<Disks<O, N>, ()>
 where
     F: Files,
     W: Wire,
     O: Disk + Drop,
     N: Disk + Drop,
     ensures { MigratesFrom (source_place F.log source.entry) (record {
-      old = O.log old;
-      old_back = O.log result.old;
-      new = N.log new;
-      new_back = N.log result.new;
+      old = O.log disks.old;
+      old_back = O.log result.disk.old;
+      new = N.log disks.new;
+      new_back = N.log result.disk.new;
     }) (W.log wire.old) (W.log wire.new) result.ended }
 {
     let plan = match source.read_plan(alloc, wire) {
         Ok(plan) => plan,
         Err(fault) => {
-            return Migrated {
-                old,
-                new,
+            return Ended {
+                disk: disks,
                 ended: Err(fault),
             };
         }
     };
-    let Migrated {
-        old,
-        new,
-        ended: moved,
-    } = move_study(alloc, &plan, old, new);
+    let Ended { disk, ended: moved } = move_study(alloc, &plan, disks);
     let ended = match moved {
         Ok(count) => write_moved(alloc, wire, count),
         Err(fault) => Err(fault),
     };
-    Migrated { old, new, ended }
+    Ended { disk, ended }
 }
 
 /// Writes how many slips were moved.
@@ -147,65 +134,73 @@ fn write_moved<W: Wire>(alloc: Global, wire: &mut W, count: u64) -> Result<(), C
 }
 
 /// Moves the slips of a plan's study, and returns how many there are.
-fn move_study<O, N>(alloc: Global, plan: &Plan, old: O, new: N) -> Migrated<O, N, u64>
+fn move_study<O, N>(alloc: Global, plan: &Plan, disks: Disks<O, N>) -> Ended<Disks<O, N>, u64>
 where
     O: Disk + Drop,
     N: Disk + Drop,
     ensures { EndsMove (record {
-      old = O.log old;
-      old_back = O.log result.old;
-      new = N.log new;
-      new_back = N.log result.new;
+      old = O.log disks.old;
+      old_back = O.log result.disk.old;
+      new = N.log disks.new;
+      new_back = N.log result.disk.new;
     }) plan.now result.ended }
 {
-    let (slips, old) = slips_on(alloc, plan, old);
+    let Disks { old, new } = disks;
+    let Ended {
+        disk: old,
+        ended: slips,
+    } = slips_on(alloc, plan, old);
     match slips {
         Ok(slips) => {
-            let Filled { disk, count } = move_slips(alloc, plan, &slips, new);
-            Migrated {
-                old,
-                new: disk,
-                ended: count,
+            let Ended { disk: new, ended } = move_slips(alloc, plan, &slips, new);
+            Ended {
+                disk: Disks { old, new },
+                ended,
             }
         }
-        Err(fault) => Migrated {
-            old,
-            new,
+        Err(fault) => Ended {
+            disk: Disks { old, new },
             ended: Err(fault),
         },
     }
 }
 
-/// The slips that a disk holds for a plan, and the disk.
-fn slips_on<O: Disk + Drop>(alloc: Global, plan: &Plan, disk: O) -> (Result<Vec<Slip>, CliFault>, O)
-    ensures read { IfOk result.0 (λ slips. Goes (λ n. n) (IsReopened plan.now slips.items) (O.log disk)
-        (O.log result.1)) }
-    ensures refused { IfErr result.0 (λ e. IsOldRefused e plan.now (O.log disk) (O.log result.1)) }
+/// The slips that a disk holds for a plan.
+fn slips_on<O: Disk + Drop>(alloc: Global, plan: &Plan, disk: O) -> Ended<O, Vec<Slip>>
+    ensures read { IfOk result.ended (λ slips. Goes (λ n. n) (IsReopened plan.now slips.items) (O.log disk)
+        (O.log result.disk)) }
+    ensures refused { IfErr result.ended (λ e. IsOldRefused e plan.now (O.log disk) (O.log result.disk)) }
 {
     match Journal::reopen(alloc, disk, plan) {
-        Ok((journal, slips)) => (Ok(slips), journal.into_disk()),
-        Err((fault, disk)) => (Err(CliFault::from(fault)), disk),
+        Ok((journal, slips)) => Ended {
+            disk: journal.into_disk(),
+            ended: Ok(slips),
+        },
+        Err((fault, disk)) => Ended {
+            disk,
+            ended: Err(CliFault::from(fault)),
+        },
     }
 }
 
-/// Makes a study of a plan's upgrade on an unclaimed disk, and moves slips there.
-fn move_slips<N: Disk + Drop>(alloc: Global, plan: &Plan, slips: &[Slip], disk: N) -> Filled<N>
-    ensures { EndsFilling result.count plan.now slips.now (N.log disk) (N.log result.disk) }
+/// Makes a study of a plan's upgrade on an unclaimed disk, moves slips there, and returns how many there are.
+fn move_slips<N: Disk + Drop>(alloc: Global, plan: &Plan, slips: &[Slip], disk: N) -> Ended<N, u64>
+    ensures { EndsFilling result.ended plan.now slips.now (N.log disk) (N.log result.disk) }
 {
     let upgrade = match plan.upgrade(alloc) {
         Ok(upgrade) => upgrade,
         Err(_) => {
-            return Filled {
+            return Ended {
                 disk,
-                count: Err(CliFault::Memory),
+                ended: Err(CliFault::Memory),
             };
         }
     };
     match Journal::claim(alloc, disk, &upgrade) {
         Ok(journal) => fill_journal(alloc, plan, slips, journal),
-        Err((fault, disk)) => Filled {
+        Err((fault, disk)) => Ended {
             disk,
-            count: Err(CliFault::from(fault)),
+            ended: Err(CliFault::from(fault)),
         },
     }
 }
@@ -216,18 +211,18 @@ fn fill_journal<N: Disk>(
     plan: &Plan,
     slips: &[Slip],
     journal: Journal<N>,
-) -> Filled<N>
+) -> Ended<N, u64>
     requires new { IsNewJournal (upgraded plan.now) journal }
-    ensures { Fills result.count plan.now slips.now (N.log journal.disk) (N.log result.disk) }
+    ensures { Fills result.ended plan.now slips.now (N.log journal.disk) (N.log result.disk) }
 {
     let mut journal = journal;
-    let count = match cut_migration::migrate(alloc, slips, plan, &mut journal) {
+    let ended = match cut_migration::migrate(alloc, slips, plan, &mut journal) {
         Ok(count) => Ok(count),
         Err(fault) => Err(CliFault::from(fault)),
     };
-    Filled {
+    Ended {
         disk: journal.into_disk(),
-        count,
+        ended,
     }
 }
 

@@ -1,16 +1,13 @@
 ghost use Rattle.std.specs.Prelude.{◌≡◌, ◌≤◌, is_some, option_map};
-ghost use Rattle.cut_files.specs.Place.{StaysElsewhere, while_open};
-ghost use Rattle.cut_commands.specs.Run.{plan_place, source_place};
-ghost use Rattle.cut_commands.specs.Study.{EndsStudy, RunsFrom, RunsOn};
-ghost use Rattle.cut_commands.specs.inside.Study.{RunsPlan};
+ghost use Rattle.cut_commands.specs.Run.{source_place};
+ghost use Rattle.cut_commands.specs.Study.{EndsRun, RunsFrom, RunsOn};
 
-use crate::CliFault;
 use crate::checkpoint::open_checkpoint;
 use crate::input::PlanSource;
+use crate::{CliFault, Ended};
 use cut_disks::Disk;
 use cut_files::{Files, MemoryFiles, Mode};
 use cut_outcome::Gate;
-use cut_plan::Plan;
 use cut_pool::{EndedRun, StudyRun};
 use cut_wires::Wire;
 use std::alloc::Global;
@@ -62,7 +59,7 @@ where
     ensures { RunsOn (option_map D.log disk) (W.log wire.old) (W.log wire.new) result }
 {
     let source = PlanSource::<MemoryFiles>::Input;
-    let EndedStudy { ended, .. } = run_from(rt, alloc, wire, Study::new(work, disk, source));
+    let Ended { ended, .. } = run_from(rt, alloc, wire, Study::new(work, disk, source));
     ended
 }
 
@@ -86,15 +83,6 @@ impl<'a, G, D, F> Study<'a, G, D, F> {
     }
 }
 
-/// How a study ended, with the disk that kept it.
-#[derive(Drop)]
-pub struct EndedStudy<D> {
-    /// The disk, if there is one, with what was added to it.
-    pub disk: Option<D>,
-    /// All of the table was written, or why not.
-    pub ended: Result<(), CliFault>,
-}
-
 /// Runs a study as `run_io` does, whose plan is read from a wire or a file, and gives its disk back. Of the table and of
 /// what is on the disk then the contract speaks over the same slips.
 pub fn run_from<F, W, D, G, R>(
@@ -102,7 +90,7 @@ pub fn run_from<F, W, D, G, R>(
     alloc: Global,
     wire: &mut W,
     study: Study<'_, G, D, F>,
-) -> EndedStudy<D>
+) -> Ended<Option<D>, ()>
 where
     F: Files,
     W: Wire,
@@ -116,89 +104,57 @@ where
     cut_plan::laws::accepted_texts_give_plans();
     cut_ledger::laws::true_slips_give_the_table();
     let Study { work, disk, source } = study;
-    match source.read_plan(alloc, wire) {
-        Ok(plan) => {
-            let planned = PlannedStudy {
-                plan: &plan,
-                work,
+    let plan = match source.read_plan(alloc, wire) {
+        Ok(plan) => plan,
+        Err(fault) => {
+            return Ended {
                 disk,
+                ended: Err(fault),
             };
-            run_plan(rt, alloc, wire, planned)
         }
-        Err(fault) => EndedStudy {
-            disk,
-            ended: Err(fault),
-        },
-    }
-}
-
-/// A study whose plan was read.
-#[derive(Drop)]
-struct PlannedStudy<'a, 'b, G, D> {
-    plan: &'a Plan,
-    work: Work<'b, G>,
-    disk: Option<D>,
-}
-
-/// Runs a study whose plan was read: opens the checkpoint, and writes the table.
-fn run_plan<W, D, G, R>(
-    rt: &R,
-    alloc: Global,
-    wire: &mut W,
-    study: PlannedStudy<'_, '_, G, D>,
-) -> EndedStudy<D>
-where
-    W: Wire,
-    D: Disk + Drop + Send,
-    G: Gate + Sync,
-    R: Threads + Wait + Sync,
-    ensures runs { RunsPlan study.entry.plan.now (option_map D.log study.entry.disk) (option_map D.log result.disk)
-        (W.log wire.old) (W.log wire.new) result.ended }
-    ensures disk { is_some result.disk ≡ is_some study.entry.disk }
-{
-    let PlannedStudy { plan, work, disk } = study;
-    let kept = match open_checkpoint(alloc, disk, plan) {
+    };
+    let kept = match open_checkpoint(alloc, disk, &plan) {
         Ok(kept) => kept,
         Err((fault, disk)) => {
-            return EndedStudy {
+            return Ended {
                 disk,
                 ended: Err(fault),
             };
         }
     };
     let run = StudyRun {
-        plan,
+        plan: &plan,
         kept,
         piece_size: work.piece_size,
         workers: work.workers,
     };
     let EndedRun { ended, disk } = run.run(rt, alloc, wire, work.gate);
     match ended {
-        Ok(_done) => EndedStudy {
+        Ok(_done) => Ended {
             disk,
             ended: Ok(()),
         },
-        Err(fault) => EndedStudy {
+        Err(fault) => Ended {
             disk,
             ended: Err(CliFault::from(fault)),
         },
     }
 }
 
-/// Work on a study that is kept in a file.
+/// A study whose files are named by their paths.
 #[derive(Drop)]
-pub struct KeptWork<'a, G> {
-    /// How the study is worked on.
+pub struct StudyWork<'a, G> {
+    /// How it is worked on.
     pub work: Work<'a, G>,
-    /// The path of the file.
-    pub file: &'a str,
+    /// The path of the file that keeps it, if it is kept.
+    pub checkpoint: Option<&'a str>,
     /// The path of the file that the plan is read from, if it is not the wire.
     pub plan: Option<&'a str>,
 }
 
-/// Runs a study as `run_io` does, which is kept in the file at a path.
+/// Runs a study as `run_io` does, and keeps it in the file at a path, if there is one.
 ///
-/// The file is opened before anything is read, made if there is none, and shut at the end, however the study ended. The
+/// That file is opened before anything is read, made if there is none, and shut at the end, however the study ended. The
 /// file of a plan is read after it was opened, where the wire would be read. Where what stands at the path is known, the
 /// contract says of which slips the table is, and what stands there afterwards: these and, in order, true slips of what
 /// was run, all that were lacking where the answer is `Ok`.
@@ -207,23 +163,28 @@ pub fn run<F, W, G, R>(
     rt: &R,
     alloc: Global,
     wire: &mut W,
-    kept: KeptWork<'_, G>,
+    study: StudyWork<'_, G>,
 ) -> Result<(), CliFault>
 where
     F: Files,
     W: Wire,
     G: Gate + Sync,
     R: Threads + Wait + Sync,
-    ensures ends { EndsStudy (plan_place (while_open kept.entry.file.now (F.log files.old)) kept.entry.plan)
-        (F.log files.old kept.entry.file.now) (F.log files.new kept.entry.file.now)
+    ensures { EndsRun study.entry.checkpoint study.entry.plan (F.log files.old) (F.log files.new)
         (W.log wire.old) (W.log wire.new) result }
-    ensures elsewhere { StaysElsewhere kept.entry.file.now (F.log files.old) (F.log files.new) }
 {
-    let path = kept.file;
+    let StudyWork {
+        work,
+        checkpoint,
+        plan,
+    } = study;
+    let Some(path) = checkpoint else {
+        let study = Study::new(work, None::<F::Disk>, PlanSource::of(&*files, plan));
+        return run_from(rt, alloc, wire, study).ended;
+    };
     let disk = files.open(path, Mode::Create)?;
-    let source = PlanSource::of(&*files, kept.plan);
-    let study = Study::new(kept.work, Some(disk), source);
-    let EndedStudy { disk, ended } = run_from(rt, alloc, wire, study);
+    let study = Study::new(work, Some(disk), PlanSource::of(&*files, plan));
+    let Ended { disk, ended } = run_from(rt, alloc, wire, study);
     let Some(disk) = disk else { unreachable!() };
     files.close(path, disk);
     ended

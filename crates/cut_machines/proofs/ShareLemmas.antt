@@ -17,13 +17,13 @@ use Rattle.cut_shares.specs.declared.share.share.Share.{Share}
 use Rattle.cut_shares.specs.share.Running.{AreOfShare, EndsShare}
 use Rattle.cut_wires.specs.Log.{WireLog}
 use Rattle.cut_files.specs.Place.{Place}
-use Rattle.cut_commands.specs.Run.{GivesPlanFrom, IsReadAs, IsWritten, LeavesStudy}
+use Rattle.cut_commands.specs.Run.{GivesPlanFrom, IsReadAs, IsWritten, LeavesStudy, LeavesUnread}
 use Rattle.cut_commands.specs.declared.fault.CliFault.{CliFault}
 use Rattle.cut_commands.specs.declared.fault.CliFault.TheVariants.{Memory, Plan, Read, Write, Journal, BadSlip}
 use Rattle.cut_commands.specs.declared.fault.CliFault.TheVariants.{Checkpoint, WorkMemory}
 use Rattle.cut_commands.proofs.RunLemmas.{ends_unread, leaves_answer, leaves_nothing}
 use Rattle.cut_commands.proofs.Sources.{ends_read, ends_refused_text}
-use Rattle.cut_machines.specs.Share.{AddsTo, EndsKeeping, LeavesUnread, SayUpTo, SharesFrom, disk_faults_after, fault_of_share}
+use Rattle.cut_machines.specs.Share.{AddsTo, EndsKeeping, Opens, SayUpTo, SharesFrom, disk_faults_after, fault_of_share}
 use Rattle.cut_machines.specs.Share.{share_line, share_task}
 use Rattle.cut_machines.specs.inside.Share.{KeepsShare}
 
@@ -224,7 +224,7 @@ leaves_line result n s v disk back whole old new kept line is =
 -- its plan was not read
 unread_read : (fault : CliFault) (s : Share) (disk : DiskLog) (text : List ℕ) (ended : Bool) → IsReadAs text ended (Err fault)
     → (plan : Option Place) (old new : WireLog)
-    → LeavesUnread plan fault disk disk old new × (disk.failed ≡ disk_faults_after {T = ⊤} (Err fault) disk.failed)
+    → LeavesUnread Opens plan fault disk disk old new × (disk.failed ≡ disk_faults_after {T = ⊤} (Err fault) disk.failed)
 unread_read Memory s disk text ended is plan old new = (inl refl, refl)
 unread_read Read s disk text ended is plan old new = (refl, refl)
 unread_read (Plan refusal) s disk text ended is plan old new = (refl, refl)
@@ -255,7 +255,7 @@ shares_unread (Some place) fault s disk old new given = elim given [
 module _ (plan : Option Place) (s : Share) (v : Values) (disk back : DiskLog) (old mid : WireLog)
     (given : GivesPlanFrom plan (Ok v) old mid) (known : is_known back ≡ is_known disk) where
   -- the share was not run to its end
-  unread_kept : (fault : CliFault) → EndsKeeping (Err fault) s v disk back → LeavesUnread plan fault disk back old mid
+  unread_kept : (fault : CliFault) → EndsKeeping (Err fault) s v disk back → LeavesUnread Opens plan fault disk back old mid
   unread_kept Read kept = absurd kept
   unread_kept (Plan refusal) kept = absurd kept
   unread_kept Memory kept = inr (v, (given, kept))
@@ -278,7 +278,7 @@ module _ (plan : Option Place) (s : Share) (v : Values) (disk back : DiskLog) (o
 
   -- it was
   written : (result : Result ⊤ CliFault) (whole : List ℕ) (new : WireLog) → IsWritten whole result mid new → (n : ℕ)
-      → IfErr result (λ fault. LeavesUnread plan fault disk back old new) × (disk_faults_after result n ≡ n)
+      → IfErr result (λ fault. LeavesUnread Opens plan fault disk back old new) × (disk_faults_after result n ≡ n)
   written (Ok done) whole new is n = (tt, refl)
   written (Err (Write fault)) whole new is n = (tt, refl)
   written (Err fault) whole new is n = absurd is

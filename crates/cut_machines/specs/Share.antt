@@ -6,9 +6,7 @@ use Rattle.cut_faults.specs.Failures.{one_more}
 use Rattle.cut_plan.specs.Values.{Values}
 use Rattle.cut_disks.specs.State.{DiskState}
 use Rattle.cut_disks.specs.Log.{DiskLog, IsKnown, is_known, on}
-use Rattle.cut_files.specs.Place.{Place, MayNotOpen, OpensAs, closed}
-use Rattle.cut_files.specs.declared.files.Mode.TheVariants.{Create}
-use Rattle.cut_files.specs.declared.files.OpenFault.{OpenFault}
+use Rattle.cut_files.specs.Place.{Place}
 use Rattle.cut_ledger.specs.declared.slip.Slip.{Slip}
 use Rattle.cut_ledger.specs.Slips.{AreGood, IsFirstBad}
 use Rattle.cut_journal.specs.declared.fault.JournalFault.TheVariants as journal
@@ -21,12 +19,12 @@ use Rattle.cut_shares.specs.declared.share.share.Share.{Share}
 use Rattle.cut_shares.specs.share.Running.{AreOfShare, AreWhole, IsNotDone}
 use Rattle.cut_shares.specs.share.Share.{trials_of_share}
 use Rattle.cut_wires.specs.Log.{WireLog}
-use Rattle.cut_commands.specs.Faults.{fault_of_files, fault_of_store}
-use Rattle.cut_commands.specs.Run.{CommandAnswers, EndsRead, GivesPlanFrom, HasUnread}
+use Rattle.cut_commands.specs.Faults.{fault_of_store}
+use Rattle.cut_commands.specs.Run.{CommandAnswers, EndsOver, EndsRead, HasUnread, LeavesUnread}
 use Rattle.cut_commands.specs.Study.{MayStop}
 use Rattle.cut_commands.specs.Task.{Task}
 use Rattle.cut_commands.specs.declared.fault.CliFault.{CliFault}
-use Rattle.cut_commands.specs.declared.fault.CliFault.TheVariants.{Memory, Plan, Read, Write, Journal, BadSlip}
+use Rattle.cut_commands.specs.declared.fault.CliFault.TheVariants.{Memory, Write, Journal, BadSlip}
 use Rattle.cut_commands.specs.declared.fault.CliFault.TheVariants.{Checkpoint, WorkMemory}
 
 -- ---- the answer
@@ -104,15 +102,6 @@ share_task ended s disk back = record {
   fails = λ v fault. Keeps (Err fault) s v disk back;
 }
 
--- the disk is untouched if a read failed or the text is no plan, and also if memory ran out, if the plan was not read
--- then
-abbrev pub LeavesUnread : Option Place → CliFault → DiskLog → DiskLog → WireLog → WireLog → Type 0
-LeavesUnread plan Read disk back old new = back ≡ disk
-LeavesUnread plan (Plan refusal) disk back old new = back ≡ disk
-LeavesUnread plan Memory disk back old new =
-    (back ≡ disk) ⊎ ((v : Values) × (GivesPlanFrom plan (Ok v) old new × Opens v disk back))
-LeavesUnread plan fault disk back old new = ⊤
-
 -- how the steps between the reading of a plan and the answer end: the share has n trials, and all are kept; or as
 -- the command ends
 abbrev pub EndsKeeping : Result ℕ CliFault → Share → Values → DiskLog → DiskLog → Type 0
@@ -139,7 +128,7 @@ fault_of_share fault = fault_of_store fault
 pub record SharesOn (plan : Option Place) (ended : Result ⊤ CliFault) (s : Share) (disk back : DiskLog) (old new : WireLog)
     : Type 0 where
   pub command : EndsRead (CommandAnswers (share_task ended s disk back)) plan old new ended
-  pub unread : IfErr ended (λ fault. LeavesUnread plan fault disk back old new)
+  pub unread : IfErr ended (λ fault. LeavesUnread Opens plan fault disk back old new)
   pub known : is_known back ≡ is_known disk
   pub faults : back.failed ≡ disk_faults_after ended disk.failed
 
@@ -150,11 +139,7 @@ SharesFrom plan ended s disk back old new =
 
 -- ---- over a file
 
--- how it ends over what stands at a path, by where its plan is read from, and what stands there then: the file was opened,
--- and shut with what its disk holds; or it was not opened, and nothing was read or written
+-- how it ends over what stands at a path, by where its plan is read from
 abbrev pub EndsShare : Result ⊤ CliFault → Share → Option Place → Place → Place → WireLog → WireLog → Type 0
 EndsShare ended s plan place after old new =
-    ((disk : DiskLog) × (back : DiskLog) × (OpensAs Create disk place × (after ≡ closed back place)
-    × SharesFrom plan ended s disk back old new))
-    ⊎ ((fault : OpenFault) × (MayNotOpen Create fault place × (after ≡ place) × (ended ≡ Err (fault_of_files fault))
-    × (new ≡ old)))
+    EndsOver (λ disk back. SharesFrom plan ended s disk back old new) place after old new ended

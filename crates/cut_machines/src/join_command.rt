@@ -1,6 +1,6 @@
 //! The command that joins checkpoints.
 
-ghost use Rattle.std.specs.Prelude.{◌≡◌, IfErr, IfOk, None, length, map, string_bytes};
+ghost use Rattle.std.specs.Prelude.{◌≡◌, IfErr, IfOk, length, map, string_bytes};
 ghost use Rattle.cut_disks.specs.Log.{Goes, is_known};
 ghost use Rattle.cut_ledger.specs.Slips.{AreGood};
 ghost use Rattle.cut_shares.specs.join.Joined.{joined};
@@ -13,8 +13,8 @@ ghost use Rattle.cut_commands.specs.NewStudy.{writing_faults};
 ghost use Rattle.cut_machines.specs.JoinTarget.{LeavesDisk, StopsWriting};
 
 use crate::join_sources::judged_slips;
-use crate::join_target::{Written, write_joined};
-use cut_commands::{CliFault, PlanSource, write_answer};
+use crate::join_target::write_joined;
+use cut_commands::{CliFault, Ended, PlanSource, write_answer};
 use cut_disks::Disk;
 use cut_files::{Files, Mode};
 use cut_journal::AcceptedSlips;
@@ -174,7 +174,14 @@ fn join_slips_of<F: Files>(
     ensures stays { StaysOpen (F.log files.old) (F.log files.new) }
 {
     match judged_slips(files, alloc, plan, old) {
-        Ok(accepted) => join_slips(alloc, &accepted, disk),
+        Ok(accepted) => {
+            let Ended { disk, ended } = join_slips(alloc, &accepted, disk);
+            Answered {
+                disk,
+                refused: None,
+                ended,
+            }
+        }
         Err(unjoined) => Answered {
             disk,
             refused: unjoined.refused,
@@ -188,24 +195,22 @@ fn join_slips<N: Disk + Drop>(
     alloc: Global,
     accepted: &AcceptedSlips<'_>,
     disk: N,
-) -> Answered<N, String>
+) -> Ended<N, String>
     ensures text { IfOk result.ended
         (λ text. string_bytes text ≡ joined_text accepted.now.plan accepted.now.slips) }
     ensures stops { IfErr result.ended StopsWriting }
     ensures left { Goes (writing_faults result.ended)
         (LeavesDisk result.ended accepted.now.plan accepted.now.slips) (N.log disk) (N.log result.disk) }
-    ensures none { result.refused ≡ None }
 {
-    let Written { disk, count } = write_joined(alloc, accepted, disk);
-    let ended = match count {
+    let Ended {
+        disk,
+        ended: written,
+    } = write_joined(alloc, accepted, disk);
+    let ended = match written {
         Ok(count) => joined_text(alloc, accepted.plan(), accepted.slips(), count),
         Err(fault) => Err(fault),
     };
-    Answered {
-        disk,
-        refused: None,
-        ended,
-    }
+    Ended { disk, ended }
 }
 
 /// The line that says how many slips were joined to how many, and how many trials of how many they hold.

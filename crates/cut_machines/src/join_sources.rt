@@ -8,7 +8,7 @@ ghost use Rattle.cut_machines.specs.JoinSources.{AreRead, HoldAll, Holds, StopsR
 ghost use Rattle.cut_machines.specs.inside.JoinSources.{AddsHeld, HaveBadSlip, IsUnopened, IsUnread, LeavesFile};
 ghost use Rattle.cut_machines.specs.inside.JoinSources.{NamesFile, StaysOpen, fault_of_slips, refused_at};
 
-use cut_commands::CliFault;
+use cut_commands::{CliFault, Ended};
 use cut_disks::Disk;
 use cut_files::{Files, Mode};
 use cut_journal::{AcceptedSlips, Journal};
@@ -142,19 +142,25 @@ fn slips_in<F: Files>(
     ensures elsewhere { StaysElsewhere path.now (F.log files.old) (F.log files.new) }
 {
     let disk = files.open(path, Mode::Existing)?;
-    let (slips, disk) = slips_on(alloc, plan, disk);
+    let Ended { disk, ended } = slips_on(alloc, plan, disk);
     files.close(path, disk);
-    slips
+    ended
 }
 
-/// The slips that a disk holds for a plan, and the disk.
-fn slips_on<O: Disk + Drop>(alloc: Global, plan: &Plan, disk: O) -> (Result<Vec<Slip>, CliFault>, O)
-    ensures held { IfOk result.0 (λ slips. Holds (place.Holds (O.log disk)) plan.now slips.items) }
-    ensures stops { IfErr result.0 (IsUnopened (place.Holds (O.log disk)) plan.now) }
-    ensures left { LeavesFile result.0 (place.Holds (O.log disk)) (place.Holds (O.log result.1)) }
+/// The slips that a disk holds for a plan.
+fn slips_on<O: Disk + Drop>(alloc: Global, plan: &Plan, disk: O) -> Ended<O, Vec<Slip>>
+    ensures held { IfOk result.ended (λ slips. Holds (place.Holds (O.log disk)) plan.now slips.items) }
+    ensures stops { IfErr result.ended (IsUnopened (place.Holds (O.log disk)) plan.now) }
+    ensures left { LeavesFile result.ended (place.Holds (O.log disk)) (place.Holds (O.log result.disk)) }
 {
     match Journal::reopen(alloc, disk, plan) {
-        Ok((journal, slips)) => (Ok(slips), journal.into_disk()),
-        Err((fault, disk)) => (Err(CliFault::from(fault)), disk),
+        Ok((journal, slips)) => Ended {
+            disk: journal.into_disk(),
+            ended: Ok(slips),
+        },
+        Err((fault, disk)) => Ended {
+            disk,
+            ended: Err(CliFault::from(fault)),
+        },
     }
 }

@@ -7,35 +7,28 @@ ghost use Rattle.cut_commands.specs.NewStudy.{IsNewJournal, writing_faults};
 ghost use Rattle.cut_machines.specs.JoinTarget.{LeavesDisk, StopsWriting};
 ghost use Rattle.cut_machines.specs.inside.JoinTarget.{FillsJoined};
 
-use cut_commands::CliFault;
+use cut_commands::{CliFault, Ended};
 use cut_disks::Disk;
 use cut_journal::{AcceptedSlips, Journal};
 use cut_shares::join::join;
 use std::alloc::Global;
 
-/// A disk to which joined slips were to be written, and how many there are, or why not all were written.
-#[derive(Drop)]
-pub(crate) struct Written<N> {
-    pub(crate) disk: N,
-    pub(crate) count: Result<u64, CliFault>,
-}
-
-/// Makes a journal of a plan on an unclaimed disk, and writes slips of the plan to it, joined.
+/// Makes a journal of a plan on an unclaimed disk, writes slips of the plan to it, joined, and returns how many there are.
 pub(crate) fn write_joined<N: Disk + Drop>(
     alloc: Global,
     accepted: &AcceptedSlips<'_>,
     disk: N,
-) -> Written<N>
-    ensures left { Goes (writing_faults result.count)
-        (LeavesDisk result.count accepted.now.plan accepted.now.slips) (N.log disk) (N.log result.disk) }
-    ensures count { IfOk result.count (λ n. n ≡ length (joined accepted.now.plan accepted.now.slips)) }
-    ensures stops { IfErr result.count StopsWriting }
+) -> Ended<N, u64>
+    ensures left { Goes (writing_faults result.ended)
+        (LeavesDisk result.ended accepted.now.plan accepted.now.slips) (N.log disk) (N.log result.disk) }
+    ensures count { IfOk result.ended (λ n. n ≡ length (joined accepted.now.plan accepted.now.slips)) }
+    ensures stops { IfErr result.ended StopsWriting }
 {
     match Journal::claim(alloc, disk, accepted.plan()) {
         Ok(journal) => fill_journal(alloc, accepted, journal),
-        Err((fault, disk)) => Written {
+        Err((fault, disk)) => Ended {
             disk,
-            count: Err(CliFault::from(fault)),
+            ended: Err(CliFault::from(fault)),
         },
     }
 }
@@ -45,17 +38,17 @@ fn fill_journal<N: Disk>(
     alloc: Global,
     accepted: &AcceptedSlips<'_>,
     journal: Journal<N>,
-) -> Written<N>
+) -> Ended<N, u64>
     requires { IsNewJournal accepted.now.plan journal }
-    ensures { FillsJoined result.count accepted.now.plan accepted.now.slips (N.log journal.disk) (N.log result.disk) }
+    ensures { FillsJoined result.ended accepted.now.plan accepted.now.slips (N.log journal.disk) (N.log result.disk) }
 {
     let mut journal = journal;
-    let count = match join(alloc, accepted, &mut journal) {
+    let ended = match join(alloc, accepted, &mut journal) {
         Ok(count) => Ok(count),
         Err(fault) => Err(CliFault::from(fault)),
     };
-    Written {
+    Ended {
         disk: journal.into_disk(),
-        count,
+        ended,
     }
 }

@@ -5,7 +5,7 @@ ghost use Rattle.cut_machines.specs.Share.{EndsShare, SharesFrom, fault_of_share
 ghost use Rattle.cut_machines.specs.inside.Share.{KeepsShare};
 
 use crate::share_answer::share_line;
-use cut_commands::{CliFault, PlanSource, write_answer};
+use cut_commands::{CliFault, Ended, PlanSource, write_answer};
 use cut_disks::Disk;
 use cut_files::{Files, Mode};
 use cut_journal::{Journal, StoreFault};
@@ -66,7 +66,7 @@ where
 {
     let path = work.file;
     let disk = files.open(path, Mode::Create)?;
-    let Shared { disk, ended } = share_on(rt, alloc, wire, work.on(&*files, disk));
+    let Ended { disk, ended } = share_on(rt, alloc, wire, work.on(&*files, disk));
     files.close(path, disk);
     ended
 }
@@ -97,22 +97,13 @@ impl<'a, G> ShareWork<'a, G> {
     }
 }
 
-/// How a share ended, and the disk that it was given.
-#[derive(Drop)]
-struct Shared<D> {
-    /// The disk, with what was added to it.
-    disk: D,
-    /// Whether all trials of the share are held and the answer was written, or why not.
-    ended: Result<(), CliFault>,
-}
-
 /// Runs a share over a disk.
 fn share_on<F, W, D, G, R>(
     rt: &R,
     alloc: Global,
     wire: &mut W,
     share: DiskShare<'_, G, D, F>,
-) -> Shared<D>
+) -> Ended<D, ()>
 where
     F: Files,
     W: Wire,
@@ -127,19 +118,19 @@ where
     let plan = match source.read_plan(alloc, wire) {
         Ok(plan) => plan,
         Err(fault) => {
-            return Shared {
+            return Ended {
                 disk,
                 ended: Err(fault),
             };
         }
     };
-    let (kept, disk) = keep_share(rt, alloc, &plan, work, disk);
+    let Ended { disk, ended: kept } = keep_share(rt, alloc, &plan, work, disk);
     match kept {
         Ok(count) => {
             let ended = write_answer(wire, share_line(share, count).as_bytes());
-            Shared { disk, ended }
+            Ended { disk, ended }
         }
-        Err(fault) => Shared {
+        Err(fault) => Ended {
             disk,
             ended: Err(fault),
         },
@@ -147,23 +138,28 @@ where
 }
 
 /// Opens the journal of a plan on a disk, and runs the trials of a share that it lacks. Returns how many trials the
-/// share has, and the disk.
+/// share has.
 fn keep_share<D, G, R>(
     rt: &R,
     alloc: Global,
     plan: &Plan,
     work: ShareWork<'_, G>,
     disk: D,
-) -> (Result<u32, CliFault>, D)
+) -> Ended<D, u32>
 where
     D: Disk,
     G: Gate + Sync,
     R: Threads + Wait + Sync,
-    ensures { KeepsShare result.0 work.entry.share plan.now (D.log disk) (D.log result.1) }
+    ensures { KeepsShare result.ended work.entry.share plan.now (D.log disk) (D.log result.disk) }
 {
     let (mut journal, slips) = match Journal::open(alloc, disk, plan) {
         Ok(opened) => opened,
-        Err((fault, disk)) => return (Err(CliFault::from(fault)), disk),
+        Err((fault, disk)) => {
+            return Ended {
+                disk,
+                ended: Err(CliFault::from(fault)),
+            };
+        }
     };
     let run = ShareRun {
         plan,
@@ -175,8 +171,14 @@ where
     let ended = run.run(rt, alloc, &mut journal);
     let disk = journal.into_disk();
     match ended {
-        Ok(count) => (Ok(count), disk),
-        Err(fault) => (Err(fault_of_share(fault)), disk),
+        Ok(count) => Ended {
+            disk,
+            ended: Ok(count),
+        },
+        Err(fault) => Ended {
+            disk,
+            ended: Err(fault_of_share(fault)),
+        },
     }
 }
 

@@ -1,5 +1,5 @@
 -- What only the crate's own clauses and proofs cite, beside specs/Study.antt.
-use Rattle.std.specs.Prelude.{◌≡◌, Option, Some, None, IfErr, Result, Ok, Err, Vec, ⊤}
+use Rattle.std.specs.Prelude.{◌≡◌, Option, Some, None, IfErr, Result, Vec, ⊤}
 use Rattle.cut_plan.specs.Values.{Values}
 use Rattle.cut_disks.specs.Log.{DiskLog, Goes}
 use Rattle.cut_ledger.specs.declared.slip.Slip.{Slip}

@@ -3,7 +3,7 @@
 use super::checkpoints::{file_with, whole_file};
 use super::migrating::FIRST;
 use super::{LINE, PLAN, is_table, work_of};
-use cut_commands::{CliFault, KeptWork, MigratedFiles, migrate, run};
+use cut_commands::{CliFault, MigratedFiles, StudyWork, migrate, run};
 use cut_disks::MemoryDisk;
 use cut_files::{Files, MemoryFiles, Mode};
 use cut_journal::JournalFault;
@@ -29,12 +29,12 @@ fn is_run<T: Threads + Wait + Sync>(
     files: &mut MemoryFiles<MemoryDisk>,
 ) -> Result<bool, Fail> {
     let mut wire = wire_of(alloc)?;
-    let kept = KeptWork {
+    let study = StudyWork {
         work: work_of(2, 2),
-        file: FILE,
+        checkpoint: Some(FILE),
         plan: None,
     };
-    let ended = run(files, rt, alloc, &mut wire, kept);
+    let ended = run(files, rt, alloc, &mut wire, study);
     Ok(ended.is_ok() && is_table(wire.taken(), LINE))
 }
 

@@ -4,8 +4,8 @@ use super::checkpoints::file_with;
 use super::migrating::FIRST;
 use super::{LINE, NO_DISK, PLAN, is_table, work_of};
 use cut_commands::{
-    CliFault, KeptWork, MigratedFiles, PlanSource, Study, canonical_from, check_from, explain_from,
-    migrate, run, run_from,
+    CliFault, MigratedFiles, PlanSource, Study, StudyWork, canonical_from, check_from,
+    explain_from, migrate, run, run_from,
 };
 use cut_disks::MemoryDisk;
 use cut_files::{Files, MemoryFiles};
@@ -143,19 +143,20 @@ fn is_run<T: Threads + Wait + Sync>(rt: &T, alloc: Global) -> Result<bool, Fail>
     Ok(is_table(wire.taken(), LINE))
 }
 
-/// Whether a study that is kept beside the file of its plan writes its table.
-fn is_kept<T: Threads + Wait + Sync>(
+/// Whether the study of the file's plan writes its table, be it kept beside that file or not.
+fn is_run_in<T: Threads + Wait + Sync>(
     rt: &T,
     alloc: Global,
     files: &mut MemoryFiles,
+    checkpoint: Option<&'static str>,
 ) -> Result<bool, Fail> {
     let mut wire = wire_of(alloc)?;
-    let kept = KeptWork {
+    let study = StudyWork {
         work: work_of(1, 2),
-        file: STUDY_FILE,
+        checkpoint,
         plan: Some(PLAN_FILE),
     };
-    run(files, rt, alloc, &mut wire, kept)?;
+    run(files, rt, alloc, &mut wire, study)?;
     Ok(is_table(wire.taken(), LINE))
 }
 
@@ -164,7 +165,9 @@ fn a_plan_of_a_file_is_run(rt: HostRuntime) -> Result<(), Fail> {
     let alloc = rt.alloc();
     assert!(rt; is_run(&rt, alloc)?);
     let mut files = files_of(alloc, PLAN.as_bytes())?;
-    assert!(rt; is_kept(&rt, alloc, &mut files)?);
+    assert!(rt; is_run_in(&rt, alloc, &mut files, None)?);
+    assert!(rt; files.read(alloc, STUDY_FILE).is_err());
+    assert!(rt; is_run_in(&rt, alloc, &mut files, Some(STUDY_FILE))?);
     assert!(rt; files.read(alloc, PLAN_FILE)?.as_slice() == PLAN.as_bytes());
     Ok(())
 }
@@ -175,12 +178,12 @@ fn a_plan_is_no_checkpoint(rt: HostRuntime) -> Result<(), Fail> {
     let alloc = rt.alloc();
     let mut files = files_of(alloc, PLAN.as_bytes())?;
     let mut wire = wire_of(alloc)?;
-    let kept = KeptWork {
+    let study = StudyWork {
         work: work_of(1, 2),
-        file: PLAN_FILE,
+        checkpoint: Some(PLAN_FILE),
         plan: Some(PLAN_FILE),
     };
-    let ended = run(&mut files, &rt, alloc, &mut wire, kept);
+    let ended = run(&mut files, &rt, alloc, &mut wire, study);
     assert!(rt; matches!(ended, Err(CliFault::Journal(_))) && has_taken(&mut wire, b""));
     Ok(())
 }

@@ -14,10 +14,10 @@ returns g c =
     let old = c.args.journal in
     let new = c.migrate.new.journal in
     elim c.match-migrate.branch [
-      | in-Ok w ↦ rw w.count-is
+      | in-Ok w ↦ rw w.ended-is
           (subst (λ d. Fills (Ok w.in-Ok.count) v ss (g.N.Disk.log old.disk) (g.N.Disk.log d)) (sym c.into_disk.ensures.disk)
           (fills_all g.N.Disk.log v ss old new c.requires.new c.into_disk.ensures.sound w.in-Ok.count w.in-Ok.ensures.ends))
-      | in-Err w ↦ rw (w.count-is, w.from.ensures)
+      | in-Err w ↦ rw (w.ended-is, w.from.ensures)
           (subst (λ d. Fills (Err (fault_of_store w.in-Err.fault)) v ss (g.N.Disk.log old.disk) (g.N.Disk.log d))
           (sym c.into_disk.ensures.disk)
           (fills_some g.N.Disk.log v ss old new c.requires.new c.into_disk.ensures.sound w.in-Err.fault

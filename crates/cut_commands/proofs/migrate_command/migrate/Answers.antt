@@ -64,8 +64,8 @@ returns-clause-ends g c =
     let to : List ℕ = c.args.paths.to.now in
     let source : DiskLog = g.F.Disk.Disk.log c.in_ok-old.old in
     let target : DiskLog = g.F.Disk.Disk.log c.in-Ok.new in
-    let source_back : DiskLog = g.F.Disk.Disk.log c.migrate_from-old.result.old in
-    let target_back : DiskLog = g.F.Disk.Disk.log c.migrate_from-old.result.new in
+    let source_back : DiskLog = g.F.Disk.Disk.log c.migrate_from-disk.result.disk.old in
+    let target_back : DiskLog = g.F.Disk.Disk.log c.migrate_from-disk.result.disk.new in
     let d : MigrateDisks = record { old = source; old_back = source_back; new = target; new_back = target_back } in
     inl record {
       disks = d;
@@ -73,11 +73,11 @@ returns-clause-ends g c =
       target = second_log from to Create target (log c.args.files.now) (log c.open.new.self)
           c.in_ok-old.ensures.opened.1 c.in_ok-old.ensures.elsewhere c.in-Ok.ensures.opened.0;
       ends = subst (λ (plan : Option Place). MigratesFrom plan d (g.W.Wire.log c.args.wire.now)
-          (g.W.Wire.log c.migrate_from-old.new.wire) c.migrate_from-old.result.ended)
+          (g.W.Wire.log c.migrate_from-disk.new.wire) c.migrate_from-disk.result.ended)
           (c.of-source.ensures ∙ same_place (log c.open-2.new.self) (while_open to (while_open from (log c.args.files.now)))
           c.args.paths.plan (both_open from to (log c.args.files.now) (log c.open.new.self) (log c.open-2.new.self)
           c.in_ok-old.ensures.opened.1 c.in_ok-old.ensures.elsewhere c.in-Ok.ensures.opened.1 c.in-Ok.ensures.elsewhere))
-          c.migrate_from-old.ensures;
+          c.migrate_from-disk.ensures;
       source_after = source_shut from to (log c.args.files.now) (log c.open.new.self) (log c.open-2.new.self)
           (log c.close-2.new.self) (log c.close-3.new.self) target source_back target_back c.in_ok-old.ensures.opened.1
           c.in_ok-old.ensures.elsewhere c.in-Ok.ensures.opened.0 c.in-Ok.ensures.opened.1 c.in-Ok.ensures.elsewhere

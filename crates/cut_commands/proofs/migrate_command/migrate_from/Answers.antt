@@ -12,10 +12,10 @@ use Rattle.cut_commands.proofs.migrate_command.migrate_from.Goals as goal
 pub returns-in-Err : goal.returns-in-Err
 returns-in-Err g c =
     let d : MigrateDisks = record {
-      old = g.O.Disk.log c.args.old;
-      old_back = g.O.Disk.log c.args.old;
-      new = g.N.Disk.log c.args.new;
-      new_back = g.N.Disk.log c.args.new;
+      old = g.O.Disk.log c.args.disks.old;
+      old_back = g.O.Disk.log c.args.disks.old;
+      new = g.N.Disk.log c.args.disks.new;
+      new_back = g.N.Disk.log c.args.disks.new;
     } in
     migrates_unread (source_place g.F.Files.log c.args.source) d c.in-Err.fault (g.W.Wire.log c.args.wire.now)
     (g.W.Wire.log c.read_plan.new.wire) (refl, refl) c.in-Err.ensures
@@ -25,10 +25,10 @@ returns g c =
     let plan : Option Place = source_place g.F.Files.log c.args.source in
     let v : Values = c.in-Ok.plan in
     let d : MigrateDisks = record {
-      old = g.O.Disk.log c.args.old;
-      old_back = g.O.Disk.log c.move_study-old.result.old;
-      new = g.N.Disk.log c.args.new;
-      new_back = g.N.Disk.log c.move_study-old.result.new;
+      old = g.O.Disk.log c.args.disks.old;
+      old_back = g.O.Disk.log c.move_study-disk.result.disk.old;
+      new = g.N.Disk.log c.args.disks.new;
+      new_back = g.N.Disk.log c.move_study-disk.result.disk.new;
     } in
     let old : WireLog = g.W.Wire.log c.args.wire.now in
     let mid : WireLog = g.W.Wire.log c.read_plan.new.wire in
@@ -36,9 +36,9 @@ returns g c =
       | in-Ok-moved w ↦ rw (w.ended-is, w.wire-is)
           (migrates_all plan d v old mid c.in-Ok.ensures w.in-Ok-moved.count w.write_moved-ended.result
           (g.W.Wire.log w.write_moved-ended.new.wire)
-          (subst (λ (r : Result ℕ CliFault). EndsMove d v r) w.in-Ok-moved.is c.move_study-old.ensures)
+          (subst (λ (r : Result ℕ CliFault). EndsMove d v r) w.in-Ok-moved.is c.move_study-disk.ensures)
           w.write_moved-ended.ensures)
       | in-Err-moved w ↦ rw (w.ended-is, w.wire-is)
           (migrates_none plan d v old mid c.in-Ok.ensures w.in-Err-moved.fault
-          (subst (λ (r : Result ℕ CliFault). EndsMove d v r) w.in-Err-moved.is c.move_study-old.ensures))
+          (subst (λ (r : Result ℕ CliFault). EndsMove d v r) w.in-Err-moved.is c.move_study-disk.ensures))
     ]

@@ -11,4 +11,4 @@ returns-in-Ok-claim g c =
     let mid = g.N.Disk.log c.in-Ok-claim.journal.disk in
     since_claimed c.args.plan.now c.args.slips.now old mid (g.N.Disk.log c.fill_journal.result.disk)
     (subst (λ (u : Values). Goes (λ n. n) (IsClaimed u) old mid) c.in-Ok.ensures.value c.in-Ok-claim.ensures.made)
-    c.fill_journal.result.count c.fill_journal.ensures
+    c.fill_journal.result.ended c.fill_journal.ensures

@@ -14,11 +14,11 @@ returns g c =
     let old = c.args.journal in
     let new = c.join.new.journal in
     elim c.match-join.branch [
-      | in-Ok w ↦ rw w.count-is
+      | in-Ok w ↦ rw w.ended-is
           (subst (λ d. FillsJoined (Ok w.in-Ok.count) v ss (g.N.Disk.log old.disk) (g.N.Disk.log d))
           (sym c.into_disk.ensures.disk)
           (fills_all g.N.Disk.log v ss old new c.requires c.into_disk.ensures.sound w.in-Ok.count w.in-Ok.ensures))
-      | in-Err w ↦ rw (w.count-is, w.from.ensures)
+      | in-Err w ↦ rw (w.ended-is, w.from.ensures)
           (subst (λ d. FillsJoined (Err (fault_of_store w.in-Err.fault)) v ss (g.N.Disk.log old.disk) (g.N.Disk.log d))
           (sym c.into_disk.ensures.disk)
           (fills_some g.N.Disk.log v ss old new c.requires c.into_disk.ensures.sound w.in-Err.fault w.in-Err.ensures))

@@ -11,19 +11,19 @@ use Rattle.cut_machines.proofs.join_target.write_joined.Goals as goal
 
 pub returns-in-Ok-clause-left : goal.returns-in-Ok-clause-left
 returns-in-Ok-clause-left g c =
-    left_filled c.fill_journal.result.count c.args.accepted.now.plan c.args.accepted.now.slips (g.N.Disk.log c.args.disk)
+    left_filled c.fill_journal.result.ended c.args.accepted.now.plan c.args.accepted.now.slips (g.N.Disk.log c.args.disk)
     (g.N.Disk.log c.in-Ok.journal.disk) (g.N.Disk.log c.fill_journal.result.disk)
     (subst (λ (w : Values). Goes (λ n. n) (IsClaimed w) (g.N.Disk.log c.args.disk) (g.N.Disk.log c.in-Ok.journal.disk))
     c.plan.ensures c.in-Ok.ensures.made) c.fill_journal.ensures
 
 pub returns-in-Ok-clause-count : goal.returns-in-Ok-clause-count
 returns-in-Ok-clause-count g c =
-    filled_count c.fill_journal.result.count c.args.accepted.now.plan c.args.accepted.now.slips
+    filled_count c.fill_journal.result.ended c.args.accepted.now.plan c.args.accepted.now.slips
     (g.N.Disk.log c.in-Ok.journal.disk) (g.N.Disk.log c.fill_journal.result.disk) c.fill_journal.ensures
 
 pub returns-in-Ok-clause-stops : goal.returns-in-Ok-clause-stops
 returns-in-Ok-clause-stops g c =
-    filled_stops c.fill_journal.result.count c.args.accepted.now.plan c.args.accepted.now.slips
+    filled_stops c.fill_journal.result.ended c.args.accepted.now.plan c.args.accepted.now.slips
     (g.N.Disk.log c.in-Ok.journal.disk) (g.N.Disk.log c.fill_journal.result.disk) c.fill_journal.ensures
 
 pub returns-in-Err-clause-left : goal.returns-in-Err-clause-left
