@@ -1,4 +1,4 @@
-pub mod JobLemmas
 pub mod ProgramLemmas
 pub mod QuotedPaths
 pub mod RefusedFiles
+pub mod ShareEnds

@@ -9,7 +9,7 @@ use Rattle.cut_wires.specs.Log.{WireLog, wrote}
 use Rattle.cut_wires.specs.declared.send.Sent.{Sent}
 use Rattle.cut_command_line.specs.options.Options.{program_app}
 use Rattle.cut_command_line.specs.Line.{NamesJob, status_of_kind, IsAsked}
-use Rattle.cut_command_line.specs.declared.line.Job.{Job}
+use Rattle.cut_command_line.specs.declared.job.Job.{Job}
 use Rattle.cut_commands.specs.Faults.{fault_line, status_of}
 use Rattle.cut_commands.specs.declared.fault.CliFault.{CliFault}
 use Rattle.cut_commands.specs.declared.fault.CliFault.TheVariants.{Memory, Write}

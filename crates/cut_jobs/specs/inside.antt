@@ -1,3 +1,2 @@
 -- How the crate keeps its values, and what its private functions promise: no contract of a public function cites it.
-pub mod Jobs
 pub mod Printing

@@ -1,21 +1,18 @@
-ghost use Rattle.cut_command_line.specs.Line.{IsSizedJob};
+//! What each job does.
+ghost use Rattle.cut_server.specs.Serve.{EndsServing};
 ghost use Rattle.cut_jobs.specs.Jobs.{EndsJob, PrintsOn, TellsRefused};
 ghost use Rattle.cut_jobs.specs.Paths.{paths_of};
 
 use crate::Devices;
-use crate::join_job::JoinJob;
-use crate::run_job::{RunJob, WorkersJob};
-use crate::share_job::ShareJob;
-use crate::study_job::StudyJob;
-use cut_command_line::Job;
+use crate::joins::run_join;
+use crate::studies::{run_share, run_study};
+use cut_command_line::{Job, ServeOptions};
 use cut_commands::{
     CliFault, MigratedFiles, PlanSource, ask, canonical_from, check_from, explain_from, migrate,
     status,
 };
 use cut_files::Files;
-use cut_machines::JoinedFiles;
 use cut_server::{Capacity, serve_at};
-use cut_shares::share::Share;
 use cut_sockets::Sockets;
 use cut_wires::Wire;
 use std::sync::Wait;
@@ -46,7 +43,6 @@ where
     W: Wire,
     E: Wire + Send,
     R: Threads + Wait + Clock + Sync,
-    requires { IsSizedJob job }
     ensures ends { EndsJob job.entry (paths_of F.log S.log devices.old) (paths_of F.log S.log devices.new)
         (W.log wire.old) (W.log wire.new) result }
     ensures prints { PrintsOn job.entry result (E.log errors.old) (E.log errors.new) }
@@ -55,60 +51,9 @@ where
 {
     let alloc = system.host.alloc();
     match job {
-        Job::Run {
-            piece,
-            workers,
-            checkpoint,
-            progress,
-            plan,
-        } => {
-            let work = WorkersJob::Study(StudyJob {
-                piece,
-                workers,
-                checkpoint,
-                plan,
-            });
-            RunJob { work, progress }.run(&mut devices.files, system, wire, errors)
-        }
-        Job::Share {
-            index,
-            shares,
-            file,
-            piece,
-            workers,
-            progress,
-            plan,
-        } => {
-            let share = Share {
-                index,
-                shares,
-                block_size: piece,
-            };
-            let work = WorkersJob::Share(ShareJob {
-                share,
-                workers,
-                file,
-                plan,
-            });
-            RunJob { work, progress }.run(&mut devices.files, system, wire, errors)
-        }
-        Job::Join {
-            new,
-            old,
-            which,
-            plan,
-        } => {
-            let joined = JoinedFiles {
-                from: &old,
-                to: new,
-                plan,
-            };
-            let join = JoinJob {
-                files: joined,
-                which,
-            };
-            join.run(&mut devices.files, alloc, wire, errors)
-        }
+        Job::Run(options) => run_study(&mut devices.files, system, &options, wire, errors),
+        Job::Share(options) => run_share(&mut devices.files, system, &options, wire, errors),
+        Job::Join(options) => run_join(&mut devices.files, alloc, &options, wire, errors),
         Job::Check { plan } => check_from(alloc, PlanSource::of(&devices.files, plan), wire),
         Job::Explain { plan } => {
             let source = PlanSource::of(&devices.files, plan);
@@ -119,34 +64,41 @@ where
             canonical_from(alloc, source, wire)
         }
         Job::Status { file } => status(&devices.files, alloc, wire, file),
-        Job::Serve {
-            socket,
-            workers,
-            sessions,
-            studies,
-            folder,
-        } => {
-            let capacity = Capacity {
-                workers,
-                sessions,
-                studies,
-            };
-            match serve_at(system.host, system.rt, socket, capacity, folder, wire) {
-                Ok(_report) => Ok(()),
-                Err(fault) => Err(fault),
-            }
+        Job::Serve(options) => serve(system, &options, wire),
+        Job::Ask(options) => {
+            let source = PlanSource::of(&devices.files, options.plan);
+            ask(&mut devices.sockets, alloc, source, wire, options.socket)
         }
-        Job::Ask { socket, plan } => {
-            let source = PlanSource::of(&devices.files, plan);
-            ask(&mut devices.sockets, alloc, source, wire, socket)
-        }
-        Job::Migrate { old, new, plan } => {
+        Job::Migrate(options) => {
             let paths = MigratedFiles {
-                from: old,
-                to: new,
-                plan,
+                from: options.old,
+                to: options.new,
+                plan: options.plan,
             };
             migrate(&mut devices.files, alloc, wire, paths)
         }
+    }
+}
+
+/// Serves clients at a socket, as a server of these options.
+fn serve<W, R>(
+    system: &System<'_, R>,
+    options: &ServeOptions<'_>,
+    wire: &mut W,
+) -> Result<(), CliFault>
+where
+    W: Wire,
+    R: Threads + Wait + Sync,
+    ensures { EndsServing options.now.studies result (W.log wire.old) (W.log wire.new) }
+{
+    let capacity = Capacity {
+        workers: options.workers,
+        sessions: options.sessions,
+        studies: options.studies,
+    };
+    let System { host, rt } = system;
+    match serve_at(host, rt, options.socket, capacity, options.folder, wire) {
+        Ok(_report) => Ok(()),
+        Err(fault) => Err(fault),
     }
 }

@@ -3,12 +3,10 @@
 
 mod devices;
 mod jobs;
-mod join_job;
+mod joins;
 mod program;
 mod quoted;
-mod run_job;
-mod share_job;
-mod study_job;
+mod studies;
 
 pub use devices::Devices;
 pub use jobs::System;

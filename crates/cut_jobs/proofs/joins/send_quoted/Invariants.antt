@@ -3,7 +3,7 @@ use Rattle.std.specs.List.{flat_map}
 use Rattle.std.specs.Str.{chars}
 use Rattle.cut_wires.specs.Log.{wrote}
 use Rattle.cut_jobs.specs.Quoted.{quoted_char}
-use Rattle.cut_jobs.proofs.join_job.send_quoted.Given as goal
+use Rattle.cut_jobs.proofs.joins.send_quoted.Given as goal
 
 abbrev pub invariant-loop-character : goal.invariant-loop-character
 invariant-loop-character g l =

@@ -5,7 +5,7 @@ use Rattle.cut_jobs.specs.Quoted.{quoted_char}
 use Rattle.cut_jobs.specs.inside.Printing.{file_end, file_head}
 use Rattle.cut_jobs.specs.Sending.{IsSent}
 use Rattle.cut_jobs.proofs.RefusedFiles.{line_is, sent_after, sent_before}
-use Rattle.cut_jobs.proofs.join_job.report_file.Goals as goal
+use Rattle.cut_jobs.proofs.joins.report_file.Goals as goal
 
 pub returns-in-Ok : goal.returns-in-Ok
 returns-in-Ok g c =

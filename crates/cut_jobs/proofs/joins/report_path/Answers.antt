@@ -3,7 +3,7 @@ use Rattle.std.specs.Str.{chars}
 use Rattle.cut_jobs.specs.Quoted.{quoted_char}
 use Rattle.cut_jobs.specs.inside.Printing.{file_end}
 use Rattle.cut_jobs.proofs.RefusedFiles.{sent_after, whole_is}
-use Rattle.cut_jobs.proofs.join_job.report_path.Goals as goal
+use Rattle.cut_jobs.proofs.joins.report_path.Goals as goal
 
 pub returns-then-send_quoted : goal.returns-then-send_quoted
 returns-then-send_quoted g c =

@@ -3,14 +3,15 @@ ghost use Rattle.std.specs.Prelude.{◌≡◌, ◌≤◌, ◌∷◌, ◌++◌, �
 ghost use Rattle.std.specs.List.{flat_map};
 ghost use Rattle.std.specs.Str.{chars};
 ghost use Rattle.cut_machines.specs.JoinCommand.{EndsJoin};
-ghost use Rattle.cut_jobs.specs.Jobs.{PrintsRefused, file_line};
+ghost use Rattle.cut_jobs.specs.Jobs.{PrintsFileIf, PrintsRefused, TellsFileIf, file_line};
 ghost use Rattle.cut_jobs.specs.Quoted.{quoted_char};
-ghost use Rattle.cut_jobs.specs.inside.Printing.{PrintsFileIf, TellsFileIf, WritesWhole, file_end, file_head};
+ghost use Rattle.cut_jobs.specs.inside.Printing.{WritesWhole, file_end, file_head};
 ghost use Rattle.cut_jobs.specs.Sending.{IsSent};
 
 use crate::program::report;
 use crate::quoted::quoted_char;
 use arrayvec::ArrayString;
+use cut_command_line::JoinOptions;
 use cut_commands::CliFault;
 use cut_files::Files;
 use cut_machines::{Joined, JoinedFiles, join};
@@ -18,45 +19,40 @@ use cut_wires::{Wire, send_all};
 use itoa::Buffer;
 use std::alloc::Global;
 
-/// The values of a join: its files, and whether the old one that is refused is named.
-#[derive(Clone, Copy)]
-pub(crate) struct JoinJob<'a> {
-    pub(crate) files: JoinedFiles<'a>,
-    pub(crate) which: bool,
-}
-
-impl JoinJob<'_> {
-    /// Joins the files, and says on the errors which old one is refused, if that is asked for.
-    #[tactic(auto, using(crate::proofs::RefusedFiles::file_within))]
-    pub(crate) fn run<F, W, E>(
-        &self,
-        files: &mut F,
-        alloc: Global,
-        wire: &mut W,
-        errors: &mut E,
-    ) -> Result<(), CliFault>
-    where
-        F: Files,
-        W: Wire,
-        E: Wire,
-        ensures ends { (refused : Option ℕ) × EndsJoin self.now.files.to.now
-            (map (λ s. s.now) self.now.files.from.now) self.now.files.plan (F.log files.old) (F.log files.new)
-            (W.log wire.old) (W.log wire.new) result refused }
-        ensures prints { PrintsFileIf self.now.which self.now.files.from.now result
-            (E.log errors.old) (E.log errors.new) }
-        ensures tells { TellsFileIf self.now.which (map (λ s. s.now) self.now.files.from.now)
-            (EndsJoin self.now.files.to.now (map (λ s. s.now) self.now.files.from.now) self.now.files.plan
-            (F.log files.old) (F.log files.new) (W.log wire.old) (W.log wire.new) result)
-            (E.log errors.old) (E.log errors.new) }
-    {
-        let Joined { refused, ended } = join(files, alloc, wire, self.files);
-        if self.which {
-            if let Some(place) = refused {
-                report_refused(place, self.files.from, errors);
-            }
+/// Joins checkpoints, and says on the errors which old one is refused, if that is asked for.
+#[tactic(auto, using(crate::proofs::RefusedFiles::file_within))]
+pub(crate) fn run_join<F, W, E>(
+    files: &mut F,
+    alloc: Global,
+    options: &JoinOptions<'_>,
+    wire: &mut W,
+    errors: &mut E,
+) -> Result<(), CliFault>
+where
+    F: Files,
+    W: Wire,
+    E: Wire,
+    ensures ends { (refused : Option ℕ) × EndsJoin options.now.new.now (map (λ s. s.now) options.now.old.items)
+        options.now.plan (F.log files.old) (F.log files.new) (W.log wire.old) (W.log wire.new) result refused }
+    ensures prints { PrintsFileIf options.now.which options.now.old.items result (E.log errors.old) (E.log errors.new) }
+    ensures tells { TellsFileIf options.now.which (map (λ s. s.now) options.now.old.items)
+        (EndsJoin options.now.new.now (map (λ s. s.now) options.now.old.items) options.now.plan
+        (F.log files.old) (F.log files.new) (W.log wire.old) (W.log wire.new) result)
+        (E.log errors.old) (E.log errors.new) }
+{
+    let old = options.old.as_slice();
+    let paths = JoinedFiles {
+        from: old,
+        to: options.new,
+        plan: options.plan,
+    };
+    let Joined { refused, ended } = join(files, alloc, wire, paths);
+    if options.which {
+        if let Some(place) = refused {
+            report_refused(place, old, errors);
         }
-        ended
     }
+    ended
 }
 
 /// Reports on `errors` which file is refused, by its place from 1. This takes no memory.

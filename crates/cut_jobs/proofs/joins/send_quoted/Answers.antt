@@ -10,7 +10,7 @@ use Rattle.cut_jobs.specs.Quoted.{quoted_char}
 use Rattle.cut_jobs.specs.Sending.{IsCutShort}
 use Rattle.cut_jobs.proofs.QuotedPaths.{flat_map_around, flat_map_next}
 use Rattle.cut_jobs.proofs.RefusedFiles.{cut_after, cut_before}
-use Rattle.cut_jobs.proofs.join_job.send_quoted.Goals as goal
+use Rattle.cut_jobs.proofs.joins.send_quoted.Goals as goal
 
 next : (n k : ℕ) → k ≡ n + 1 → suc n ≡ k
 next n k is = omega (arith, is)
