@@ -1,13 +1,13 @@
 -- The slips of pieces, and what is appended of the tasks that run them.
-use Rattle.std.proofs.Common.{◌≡◌, ◌∙◌, ◌<◌, ◌+◌, ◌++◌, ℕ, List, [], ◌∷◌, Some, refl, sym, ap}
-use Rattle.std.proofs.Common.{length, filter, get_or, take, drop, take-append-drop}
+use Rattle.std.proofs.Common.{◌≡◌, ◌∙◌, ◌<◌, ◌+◌, ◌++◌, ℕ, List, [], ◌∷◌, Some, refl, sym, ap, length, filter, get_or}
+use Rattle.std.proofs.Common.{take, drop, take-append-drop}
 use Rattle.std.proofs.lemmas.List.{map-append, take_more}
 use Rattle.std.proofs.lemmas.List.Elements.{All-map, filter-append}
 use Rattle.cut_lists.proofs.Ranges.{All-range_with_len}
 use Rattle.cut_ledger.specs.Machine.{slip_of}
 use Rattle.cut_shares.proofs.PieceFacts.{in_trials}
-use Rattle.cut_shares.proofs.Words.{All, Computed, IsRun, IsSharePiece, IsShareSlip, IsTrue, Piece, PieceTask, Share, Slip}
-use Rattle.cut_shares.proofs.Words.{Values, done_of, has_result, is_in_share, pieces_of_slips, slip_at, slips_at}
+use Rattle.cut_shares.proofs.Words.{All, Computed, IsRun, IsSharePiece, IsShareSlip, IsTrue, Piece, PieceTask, Share}
+use Rattle.cut_shares.proofs.Words.{Slip, Values, done_of, has_result, is_in_share, pieces_of_slips, slip_at, slips_at}
 
 -- ---- the slips of pieces
 

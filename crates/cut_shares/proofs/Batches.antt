@@ -12,10 +12,10 @@ use Rattle.cut_journal.specs.declared.store_fault.StoreFault.TheVariants.{Broken
 use Rattle.cut_journal.proofs.Adding.{adding_stops, all_added}
 use Rattle.cut_shares.proofs.Appends.{pieces_back, share_slips}
 use Rattle.cut_shares.proofs.Goods.{All-first}
-use Rattle.cut_shares.proofs.Words.{Adds, All, AreParted, AreWithin, DiskLog, EndsAdding, EndsPieces, IsSharePiece, IsShareSlip}
-use Rattle.cut_shares.proofs.Words.{IsUpTo, IsWhole, JournalValue, Piece, PieceTask, Share, Slip, StoreFault, Values, done_of}
-use Rattle.cut_shares.proofs.Words.{has_result, is_in, lost_of, own_times, pieces_of, pieces_of_slips, slip_at, slips_at}
-use Rattle.cut_shares.proofs.Words.{times_in}
+use Rattle.cut_shares.proofs.Words.{Adds, All, AreParted, AreWithin, DiskLog, EndsAdding, EndsPieces, IsSharePiece}
+use Rattle.cut_shares.proofs.Words.{IsShareSlip, IsUpTo, IsWhole, JournalValue, Piece, PieceTask, Share, Slip}
+use Rattle.cut_shares.proofs.Words.{StoreFault, Values, done_of, has_result, is_in, lost_of, own_times, pieces_of}
+use Rattle.cut_shares.proofs.Words.{pieces_of_slips, slip_at, slips_at, times_in}
 
 -- ---- the pieces of tasks, with and without a result
 

@@ -15,14 +15,15 @@ use Rattle.cut_ledger.proofs.CellLemmas.{held_at}
 use Rattle.cut_ledger.proofs.FillLemmas.{count_trials}
 use Rattle.cut_ledger.proofs.Law.{one_if-le}
 use Rattle.cut_journal.specs.Journal.{IsFileOf}
-use Rattle.cut_journal.specs.declared.store_fault.StoreFault.TheVariants.{Memory, OtherPlan, BadSlip, WorkMemory, Broken, Disk}
+use Rattle.cut_journal.specs.declared.store_fault.StoreFault.TheVariants.{Memory, OtherPlan, BadSlip, WorkMemory}
+use Rattle.cut_journal.specs.declared.store_fault.StoreFault.TheVariants.{Broken, Disk}
 use Rattle.cut_journal.proofs.Adding.{none_added}
 use Rattle.cut_shares.proofs.Appends.{pieces_back, share_slips}
 use Rattle.cut_shares.proofs.Batches.{some_time}
 use Rattle.cut_shares.proofs.Words.{All, AreGood, AreOfShare, CanRun, DiskLog, EndsPieces, EndsShare, IsFaultOfOpening}
 use Rattle.cut_shares.proofs.Words.{IsSharePiece, IsTrue, JournalValue, Piece, Share, Slip, StoreFault, Values}
-use Rattle.cut_shares.proofs.Words.{count_by, gaps_of, has, is_in_base, is_in_share, is_lacking, one_if, over_base, own_times}
-use Rattle.cut_shares.proofs.Words.{range_with_len, slips_at, times_in, trial_count, trials_of_share}
+use Rattle.cut_shares.proofs.Words.{count_by, gaps_of, has, is_in_base, is_in_share, is_lacking, one_if, over_base}
+use Rattle.cut_shares.proofs.Words.{own_times, range_with_len, slips_at, times_in, trial_count, trials_of_share}
 
 -- ---- how often a trial is in the gaps
 

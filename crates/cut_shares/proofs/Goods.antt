@@ -1,16 +1,18 @@
 -- Good slips: each is sound by itself, and no trial is in two of them, in whatever order they stand.
-use Rattle.std.proofs.Common.{◌≡◌, ◌∙◌, ℕ, zero, suc, ◌+◌, ◌-◌, ◌*◌, ◌/◌, ◌<◌, ◌≤◌, inl, inr, true, false, List, [], ◌∷◌, ◌++◌}
-use Rattle.std.proofs.Common.{length, take, drop, cond, get_or, sym, ap, subst, arith, take-append-drop}
+use Rattle.std.proofs.Common.{◌≡◌, ◌∙◌, ℕ, zero, suc, ◌+◌, ◌-◌, ◌*◌, ◌/◌, ◌<◌, ◌≤◌, Bool, true, false, List, [], ◌∷◌}
+use Rattle.std.proofs.Common.{◌++◌, length, take, drop, cond, get_or, nat_le, sym, ap, subst, arith, take-append-drop}
 use Rattle.std.proofs.Math.Seq.{drop-cons, take-suc}
-use Rattle.std.proofs.lemmas.Bool.{cases_lt}
+use Rattle.std.proofs.lemmas.Bool.{leb-false, leb-true}
 use Rattle.std.proofs.lemmas.Bool.Decides.{nat_tests}
-use Rattle.std.proofs.lemmas.List.{get_or-take, get_or_append_left, length-append, length-take, length_push, take_all, take_more}
-use Rattle.std.proofs.lemmas.List.Elements.{All-cons, All-from_get_or, All-nil, All-push, All-weaker}
+use Rattle.std.proofs.lemmas.List.{get_or-take, get_or_append_left, length-append, length-take, take_all, take_more}
+use Rattle.std.proofs.lemmas.List.Elements.{All-from_get_or, All-nil}
 use Rattle.std.proofs.lemmas.List.Folds.{list_any_at}
-use Rattle.std.proofs.lemmas.List.Sorted.{All-permutation, IsNonDecreasingBy-push, IsNonDecreasingBy-short}
-use Rattle.std.proofs.lemmas.List.Sorted.{IsPermutation-cons, IsPermutation-map, IsPermutation-refl, IsPermutation-sym}
-use Rattle.std.proofs.lemmas.List.Sorted.{IsPermutation-append_left, IsPermutation-to_front, IsPermutation-trans, length_permutation}
-use Rattle.std.proofs.lemmas.List.Sorted.{sum_by-IsPermutation}
+use Rattle.std.proofs.lemmas.List.Sorted.{All-permutation, IsNonDecreasingBy-short, IsPermutation-cons}
+use Rattle.std.proofs.lemmas.List.Sorted.{IsPermutation-map, IsPermutation-refl, IsPermutation-insert}
+use Rattle.std.proofs.lemmas.List.Sorted.{IsPermutation-trans, sum_by-IsPermutation}
+use Rattle.std.specs.List.{insert, prefix_len}
+use Rattle.std.proofs.lemmas.List.Edits.{get_or-insert_above, get_or-insert_at, get_or-insert_below, length-insert}
+use Rattle.std.proofs.lemmas.List.Sums.{prefix_len-le-length, prefix_len_passes, prefix_len_stops}
 use Rattle.cut_lists.proofs.Ranges.{none_passing}
 use Rattle.cut_outcome.proofs.Sum.{few_in}
 use Rattle.cut_ledger.proofs.CellLemmas.{few_rings, piece_in_cell}
@@ -18,8 +20,8 @@ use Rattle.cut_ledger.proofs.Law.{times_more, times_once}
 use Rattle.cut_ledger.proofs.TrueSlips.{apart_good}
 use Rattle.cut_shares.proofs.Steps.{ComesAfter, Precedes, joined_more}
 use Rattle.cut_shares.proofs.Words.{All, AreAscending, AreGood, ArePossible, IsGood, IsNonDecreasingBy, IsPermutation}
-use Rattle.cut_shares.proofs.Words.{IsPlan, IsSmall, IsTrue, Piece, Slip, Values, cell_at, is_in, is_in_base, is_piece, joined}
-use Rattle.cut_shares.proofs.Words.{each_number, pieces_of_slips, times_in, with_slip}
+use Rattle.cut_shares.proofs.Words.{IsPlan, IsSmall, IsTrue, Piece, Slip, Values, cell_at, is_in, is_in_base, is_piece}
+use Rattle.cut_shares.proofs.Words.{joined, each_number, pieces_of_slips, times_in, with_slip}
 
 pub All-first : {X : Type 0} (P : X → Type 0) (xs ys : List X) → All P (xs ++ ys) → All P xs
 All-first P xs ys all k d low =
@@ -157,56 +159,49 @@ joined_next v ss i d is within =
 abbrev pub no_slip : Slip
 no_slip = record { piece = record { first = 0; count = 0 }; totals = each_number (λ n. 0) }
 
--- a slip of some that begins last, and the others
-abbrev BeginsBy : ℕ → Slip → Type 0
-BeginsBy n s = s.piece.first ≤ n
-
-last_of : (s : Slip) (ss : List Slip) → (x : Slip) × (rest : List Slip)
-    × (IsPermutation (s ∷ ss) (rest ++ x ∷ []) × All (BeginsBy x.piece.first) rest)
-last_of s [] = (s, [], (IsPermutation-refl (s ∷ []), All-nil (BeginsBy s.piece.first)))
-last_of s (t ∷ ss) =
-    let found = last_of t ss in
-    let x : Slip = found.0 in
-    let rest : List Slip = found.1 in
-    let moved : IsPermutation (s ∷ t ∷ ss) (s ∷ (rest ++ x ∷ [])) =
-    IsPermutation-cons s (t ∷ ss) (rest ++ x ∷ []) found.2.0 in
-    let all : All (BeginsBy x.piece.first) rest = found.2.1 in
-    elim (cases_lt x.piece.first s.piece.first) [
-      | inl less ↦ (
-        s,
-        rest ++ x ∷ [],
-        (
-          IsPermutation-trans (s ∷ t ∷ ss) (s ∷ (rest ++ x ∷ [])) ((rest ++ x ∷ []) ++ s ∷ []) moved
-              (IsPermutation-sym ((rest ++ x ∷ []) ++ s ∷ []) (s ∷ (rest ++ x ∷ []))
-              (IsPermutation-to_front (rest ++ x ∷ []) s)),
-          All-push (BeginsBy s.piece.first) rest x
-              (All-weaker (BeginsBy x.piece.first) (BeginsBy s.piece.first) (λ q le. omega (arith, le, less)) rest all)
-              (omega (arith, less)),
-        ),
-      )
-      | inr most ↦ (x, s ∷ rest, (moved, All-cons (BeginsBy x.piece.first) s rest most all))
-    ]
+-- slips in order, and one that is put after those that do not begin later
+put_in_order : (xs : List Slip) (s : Slip) (n : ℕ) → IsNonDecreasingBy (λ (q : Slip). q.piece.first) xs → n ≤ length xs
+    → ((k : ℕ) (d : Slip) → k < n → (get_or xs k d).piece.first ≤ s.piece.first)
+    → ((d : Slip) → n < length xs → s.piece.first < (get_or xs n d).piece.first)
+    → IsNonDecreasingBy (λ (q : Slip). q.piece.first) (insert xs n s)
+put_in_order xs s n sorted few before after i j d le within =
+    let first : ℕ → ℕ = λ k. (get_or (insert xs n s) k d).piece.first in
+    let below : (k : ℕ) → k < n → first k ≡ (get_or xs k d).piece.first = λ k less.
+    ap (λ (q : Slip). q.piece.first) (get_or-insert_below xs n s d k less few) in
+    let at : first n ≡ s.piece.first = ap (λ (q : Slip). q.piece.first) (get_or-insert_at xs n s d few) in
+    let above : (k : ℕ) → n < k → first k ≡ (get_or xs (k - 1) d).piece.first = λ k more.
+    ap first (let w : k ≡ k - 1 + 1 = omega arith in w)
+    ∙ ap (λ (q : Slip). q.piece.first) (get_or-insert_above xs n s d (k - 1) (omega arith) few) in
+    grind (
+      arith,
+      length-insert xs n s few,
+      below i,
+      below j,
+      at,
+      above i,
+      above j,
+      before i d,
+      after d,
+      sorted i j d,
+      sorted n (j - 1) d,
+      sorted (i - 1) (j - 1) d,
+    )
 
 -- slips in the order of their first trials
-pub in_order : (n : ℕ) (ss : List Slip) → length ss ≡ n
+pub in_order : (ss : List Slip)
     → (xs : List Slip) × (IsPermutation ss xs × IsNonDecreasingBy (λ (s : Slip). s.piece.first) xs)
-in_order n [] long = ([], (IsPermutation-refl [], IsNonDecreasingBy-short (λ (s : Slip). s.piece.first) [] (omega arith)))
-in_order zero (s ∷ ss) long = absurd (omega arith)
-in_order (suc n) (s ∷ ss) long =
-    let found = last_of s ss in
-    let x : Slip = found.0 in
-    let rest : List Slip = found.1 in
-    let moved : IsPermutation (s ∷ ss) (rest ++ x ∷ []) = found.2.0 in
-    let sorted = in_order n rest
-    (omega (arith, long, length_permutation (s ∷ ss) (rest ++ x ∷ []) moved, length_push rest x)) in
-    let xs : List Slip = sorted.0 in
-    let same : IsPermutation rest xs = sorted.1.0 in (
-      xs ++ x ∷ [],
+in_order [] = ([], (IsPermutation-refl [], IsNonDecreasingBy-short (λ (s : Slip). s.piece.first) [] (omega arith)))
+in_order (s ∷ ss) =
+    let found = in_order ss in
+    let xs : List Slip = found.0 in
+    let test : Slip → Bool = λ q. nat_le q.piece.first s.piece.first in
+    let n : ℕ = prefix_len test xs in (
+      insert xs n s,
       (
-        IsPermutation-trans (s ∷ ss) (rest ++ x ∷ []) (xs ++ x ∷ []) moved
-            (IsPermutation-append_left (x ∷ []) rest xs same),
-        IsNonDecreasingBy-push (λ (q : Slip). q.piece.first) xs x sorted.1.1
-            (λ d some. All-permutation (BeginsBy x.piece.first) rest xs same found.2.1
-            (length xs - 1) d (omega (arith, some))),
+        IsPermutation-trans (s ∷ ss) (s ∷ xs) (insert xs n s) (IsPermutation-cons s ss xs found.1.0)
+            (IsPermutation-insert xs n s),
+        put_in_order xs s n found.1.1 (prefix_len-le-length test xs)
+            (λ k d low. leb-true _ _ (prefix_len_passes test xs k d low))
+            (λ d low. leb-false _ _ (prefix_len_stops test xs d low)),
       ),
     )

@@ -1,7 +1,7 @@
 -- Joined slips have the same trials and the same sums of each cell, are good or true as the slips are, and are apart.
 use Rattle.std.proofs.lemmas.Grind.{common_steps}
-use Rattle.std.proofs.Common.{◌≡◌, ◌∙◌, ℕ, zero, suc, ◌+◌, ◌*◌, ◌/◌, ◌≤◌, ◌==◌, Bool, not, List, [], ◌∷◌}
-use Rattle.std.proofs.Common.{◌++◌, map, filter, length, take, cond, get_or, refl, sym, ap, subst, arith, nat_lt, IsTrue}
+use Rattle.std.proofs.Common.{◌≡◌, ◌∙◌, ℕ, zero, suc, ◌+◌, ◌*◌, ◌/◌, ◌≤◌, ◌==◌, Bool, not, List, [], ◌∷◌, ◌++◌, map}
+use Rattle.std.proofs.Common.{filter, length, take, cond, get_or, refl, sym, ap, subst, arith, nat_lt, IsTrue}
 use Rattle.std.proofs.Math.Seq.{take-suc}
 use Rattle.std.proofs.lemmas.Bool.Decides.{nat_tests}
 use Rattle.std.proofs.lemmas.List.{get_or_push, length_push, take_all}
@@ -18,15 +18,15 @@ use Rattle.cut_outcome.proofs.Places.{settled_more}
 use Rattle.cut_ledger.specs.lines.Lines.{header, line_with, table}
 use Rattle.cut_ledger.specs.Laws.{TrueSlipsAreGood, TrueSlipsGiveTheTable}
 use Rattle.cut_ledger.specs.Table.{full_sum, table_over}
-use Rattle.cut_shares.proofs.Goods.{All-first, AreSound, Ascend, IsSound, comes_next, good_ascend, good_sound, in_order, sound_good}
-use Rattle.cut_shares.proofs.Goods.{no_slip, sound_moved}
+use Rattle.cut_shares.proofs.Goods.{All-first, AreSound, Ascend, IsSound, comes_next, good_ascend, good_sound, in_order}
+use Rattle.cut_shares.proofs.Goods.{sound_good, no_slip, sound_moved}
 use Rattle.cut_shares.proofs.Merges.{Adjoin, with_all, with_apart, with_sum}
 use Rattle.cut_shares.proofs.Steps.{Precedes, joined_more, none_joined}
-use Rattle.cut_shares.proofs.Words.{All, AreApart, AreGood, ArePossible, AreTrue, IsPermutation, IsPlan, IsTrueSlip, Piece}
-use Rattle.cut_shares.proofs.Words.{Slip, Totals, Values, cell_at, cells_of, count_by, each_number, flat_map, is_in}
-use Rattle.cut_shares.proofs.Words.{is_in_base, is_piece, joined, outcome, piece_at, pieces_of_slips, plus, range_with_len, runs_of}
-use Rattle.cut_shares.proofs.Words.{slip_of_run, slip_sum, slips_of_cell, spans, sum_by, sum_of, times_in, trials_in}
-use Rattle.cut_shares.proofs.Words.{trials_of_cell, with_next, with_slip}
+use Rattle.cut_shares.proofs.Words.{All, AreApart, AreGood, ArePossible, AreTrue, IsPermutation, IsPlan, IsTrueSlip}
+use Rattle.cut_shares.proofs.Words.{Piece, Slip, Totals, Values, cell_at, cells_of, count_by, each_number, flat_map}
+use Rattle.cut_shares.proofs.Words.{is_in, is_in_base, is_piece, joined, outcome, piece_at, pieces_of_slips, plus}
+use Rattle.cut_shares.proofs.Words.{range_with_len, runs_of, slip_of_run, slip_sum, slips_of_cell, spans, sum_by}
+use Rattle.cut_shares.proofs.Words.{sum_of, times_in, trials_in, trials_of_cell, with_next, with_slip}
 
 -- ---- the same slips in another order
 
@@ -58,7 +58,7 @@ by_slips : (v : Values) (Q : Slip → Type 0) (P : List Slip → List Slip → T
     → ((pre js : List Slip) (x : Slip) → All (Precedes x) pre → Q x → P pre js → P (pre ++ x ∷ []) (with_slip v js x))
     → (ss : List Slip) → AreSound v ss → All Q ss → (xs : List Slip) × (IsPermutation ss xs × P xs (joined v ss))
 by_slips v Q P none more ss sound all =
-    let found = in_order (length ss) ss refl in
+    let found = in_order ss in
     let xs : List Slip = found.0 in
     let moved : IsPermutation ss xs = found.1.0 in
     let is = good_ascend v xs (sound_good v xs (sound_moved v ss xs moved sound)) found.1.1 in

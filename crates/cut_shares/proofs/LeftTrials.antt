@@ -5,8 +5,8 @@ use Rattle.std.proofs.lemmas.List.Sums.{sum_by-cons}
 use Rattle.cut_lists.proofs.Additions.{count_of_more}
 use Rattle.cut_shares.proofs.Counting.{count_alike}
 use Rattle.cut_shares.proofs.PieceFacts.{in_trials}
-use Rattle.cut_shares.proofs.Words.{IsTrue, Piece, Share, Values, all_trials, count_by, is_in, is_piece, one_if, own_times}
-use Rattle.cut_shares.proofs.Words.{own_trials, sum_by, trial_count}
+use Rattle.cut_shares.proofs.Words.{IsTrue, Piece, Share, Values, all_trials, count_by, is_in, is_piece, one_if}
+use Rattle.cut_shares.proofs.Words.{own_times, own_trials, sum_by, trial_count}
 
 -- sums of two functions, and of what they are together
 sums_join : (f g h : ℕ → ℕ) (ts : List ℕ) → ((t : ℕ) → f t + g t ≡ h t) → sum_by f ts + sum_by g ts ≡ sum_by h ts

@@ -1,8 +1,7 @@
 -- Slips with one after them, which is merged with the last one if it goes on from there.
-use Rattle.std.proofs.Common.{◌≡◌, ℕ, zero, suc, ◌+◌, ◌/◌, ◌≤◌, inl, inr, true, false, List, [], ◌∷◌, ◌++◌, All}
-use Rattle.std.proofs.Common.{length, set, get_or, refl, ap, arith}
+use Rattle.std.proofs.Common.{◌≡◌, ℕ, zero, suc, ◌+◌, ◌/◌, ◌≤◌, true, false, List, [], ◌∷◌, ◌++◌, All, length, set}
+use Rattle.std.proofs.Common.{get_or, refl, ap, arith}
 use Rattle.std.specs.List.{sum_by}
-use Rattle.std.proofs.lemmas.Bool.{cases_Bool}
 use Rattle.std.proofs.lemmas.List.Elements.{All-cons, All-head, All-nil, All-tail}
 use Rattle.std.proofs.lemmas.List.Sums.{sum_by-cons}
 use Rattle.cut_shares.proofs.Words.{AreApart, IsSmall, Slip, Values, adjoins, with_next, with_slip}
@@ -31,11 +30,9 @@ with_first v j x (k ∷ js) other = refl
 pub with_all : (v : Values) (x : Slip) (Q : Slip → Type 0)
     → ((s : Slip) → Adjoin v s x → Q s → Q (with_next s x))
     → Q x → (js : List Slip) → All Q js → All Q (with_slip v js x)
-with_all v x Q merged own [] all = All-cons Q x [] own (All-nil Q)
-with_all v x Q merged own (s ∷ []) all = elim (cases_Bool (adjoins v s.piece x.piece)) [
-  | inl is ↦ rw is (All-cons Q (with_next s x) [] (merged s (adjoin_is v s x is) (All-head Q s [] all)) (All-nil Q))
-  | inr is ↦ rw is (All-cons Q s (x ∷ []) (All-head Q s [] all) (All-cons Q x [] own (All-nil Q)))
-]
+with_all v x Q merged own [] all = All-cons Q x [] own all
+with_all v x Q merged own (s ∷ []) all =
+    grind (arith, All-head Q s [] all, All-nil Q, All-cons Q, adjoin_is v s x, merged s)
 with_all v x Q merged own (s ∷ t ∷ ss) all =
     All-cons Q s (with_slip v (t ∷ ss) x) (All-head Q s (t ∷ ss) all)
     (with_all v x Q merged own (t ∷ ss) (All-tail Q s (t ∷ ss) all))
@@ -45,10 +42,7 @@ pub with_sum : (v : Values) (x : Slip) (w : Slip → ℕ)
     → ((s : Slip) → Adjoin v s x → w (with_next s x) ≡ w s + w x)
     → (js : List Slip) → sum_by w (with_slip v js x) ≡ sum_by w js + w x
 with_sum v x w merged [] = grind (arith, sum_by-cons)
-with_sum v x w merged (s ∷ []) = elim (cases_Bool (adjoins v s.piece x.piece)) [
-  | inl is ↦ rw is (omega (arith, merged s (adjoin_is v s x is), sum_by-cons w (with_next s x) [], sum_by-cons w s []))
-  | inr is ↦ rw is (omega (arith, sum_by-cons w s (x ∷ []), sum_by-cons w x [], sum_by-cons w s []))
-]
+with_sum v x w merged (s ∷ []) = grind (arith, sum_by-cons, adjoin_is v s x, merged s)
 with_sum v x w merged (s ∷ t ∷ ss) =
     omega (arith, with_sum v x w merged (t ∷ ss), sum_by-cons w s (with_slip v (t ∷ ss) x), sum_by-cons w s (t ∷ ss))
 

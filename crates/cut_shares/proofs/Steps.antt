@@ -1,6 +1,6 @@
 -- Joined slips, once one comes after them.
-use Rattle.std.proofs.Common.{◌≡◌, ◌∙◌, ℕ, zero, suc, ◌+◌, ◌-◌, ◌*◌, ◌<◌, ◌≤◌, inl, inr, Bool, true, false, List, [], ◌∷◌}
-use Rattle.std.proofs.Common.{◌++◌, map, filter, length, cond, refl, sym, ap, arith, append-nil}
+use Rattle.std.proofs.Common.{◌≡◌, ◌∙◌, ℕ, zero, suc, ◌+◌, ◌-◌, ◌*◌, ◌<◌, ◌≤◌, inl, inr, Bool, true, false, List, []}
+use Rattle.std.proofs.Common.{◌∷◌, ◌++◌, map, filter, length, cond, refl, sym, ap, arith, append-nil}
 use Rattle.std.proofs.Math.Nat.{mul-le-mul_right}
 use Rattle.std.proofs.lemmas.Bool.{cases_lt, le-ltb, lt-ltb}
 use Rattle.std.proofs.lemmas.Bool.Decides.{nat_tests}
@@ -15,9 +15,9 @@ use Rattle.cut_ledger.proofs.AddLemmas.{in_base_more}
 use Rattle.cut_ledger.proofs.CellLemmas.{PieceFacts, cell_is}
 use Rattle.cut_shares.proofs.Merges.{with_first}
 use Rattle.cut_shares.proofs.SpanWalks.{span_whole, spans_none, walk}
-use Rattle.cut_shares.proofs.Words.{All, Piece, Slip, Span, Totals, Values, adjoins, cells_of, flat_map, is_in, is_in_base, joined, runs_of_cell}
-use Rattle.cut_shares.proofs.Words.{piece_at, plus, range_with_len, slip_of_run, slip_sum, slips_of_run, span_between, spans}
-use Rattle.cut_shares.proofs.Words.{with_slip}
+use Rattle.cut_shares.proofs.Words.{All, Piece, Slip, Span, Values, adjoins, cells_of, flat_map, is_in, is_in_base}
+use Rattle.cut_shares.proofs.Words.{joined, runs_of_cell, piece_at, range_with_len, slip_of_run, slip_sum, slips_of_run}
+use Rattle.cut_shares.proofs.Words.{span_between, spans, with_slip}
 
 -- ---- one slip more
 
@@ -33,6 +33,13 @@ pub record ComesAfter (v : Values) (ss : List Slip) (x : Slip) (c : ℕ) : Type 
 -- the slips of the runs that spans are
 abbrev made : List Slip → List Span → List Slip
 made ss xs = map (λ s. slip_of_run ss (piece_at s)) xs
+
+-- the joined slips of one cell, and those of m cells from number d on
+abbrev cell : Values → List Slip → ℕ → List Slip
+cell v ss e = made ss (spans (is_in_base ss) (e * v.repeats) v.repeats)
+
+abbrev cells : Values → List Slip → ℕ → ℕ → List Slip
+cells v ss d m = flat_map (cell v ss) (range_with_len d m)
 
 -- tests that agree at each element keep the same
 filter_same : {X : Type 0} (p q : X → Bool) (xs : List X) → All (λ x. p x ≡ q x) xs → filter p xs ≡ filter q xs
@@ -79,12 +86,6 @@ module _ (v : Values) (ss : List Slip) (x : Slip) (c : ℕ) (comes : ComesAfter 
       ∙ ap (λ xs. xs ++ filter (λ s. is_in p s.piece.first) (x ∷ [])) same
       ∙ ap (λ b. slips_of_run ss q ++ cond b (x ∷ []) []) here
 
-  sum_more : (xs : List Slip) → slip_sum (xs ++ x ∷ []) ≡ plus (slip_sum xs) x.totals
-  sum_more xs = grind (arith, sum_by_push)
-
-  one_sum : slip_sum (x ∷ []) ≡ x.totals
-  one_sum = grind (arith, sum_by-cons)
-
   -- ---- the spans of a cell, before other runs
 
   -- what is shown of the spans of a cell, without the slip and with it, before the runs of the cells after it
@@ -104,46 +105,48 @@ module _ (v : Values) (ss : List Slip) (x : Slip) (c : ℕ) (comes : ComesAfter 
     | inr most ↦ rw (le-ltb low last most) steps
   ]
 
-  -- the spans of a cell before its own
-  cell_before : (d : ℕ) (before after : List Slip) → d < c → after ≡ with_slip v before x
-      → Steps before after (spans (is_in_base ss) (d * v.repeats) v.repeats) (spans (is_in_base more) (d * v.repeats) v.repeats)
-  cell_before d before after less is =
+  -- a cell, if the spans from the last number before `top` on that fails are so
+  one_cell : (d top : ℕ) (before after : List Slip) → d * v.repeats ≤ top → top ≤ d * v.repeats + v.repeats
+      → top ≤ x.piece.first
+      → ((low : ℕ) → d * v.repeats ≤ low → low ≤ top → Gives (is_in_base ss) true low top → Steps before after
+      (spans (is_in_base ss) low (d * v.repeats + v.repeats - low))
+      (spans (is_in_base more) low (d * v.repeats + v.repeats - low)))
+      → cell v more d ++ after ≡ with_slip v (cell v ss d ++ before) x
+  one_cell d top before after starts ends first last =
       let r : ℕ = v.repeats in
-      let high : ℕ = d * r + r in
-      let starts = comes.facts.starts in
-      let later : suc d * r ≤ c * r = mul-le-mul_right r less in
-      let ends : high ≤ x.piece.first = omega arith in
-      let skip : (low last : ℕ) (xs ys : List Span) → d * r ≤ low → last ≤ high → Steps before after xs ys
-      → Steps before after (span_between low last ++ xs) (span_between low last ++ ys) = λ low last xs ys from to.
-      skipped before after low last xs ys (omega arith) (λ some. grind (arith, cell_is)) in
-      let all = walk (is_in_base ss) (is_in_base more) (d * r) high high (Steps before after) (omega arith)
-      (λ t low. same_before t (omega arith))
-      (λ low from to passes. (let none : (t : ℕ) → high ≤ t → t < high → ⊥ = λ t a b. omega arith in
-      rw (
-        span_whole (is_in_base ss) low high high to (omega arith) passes (λ t a b. absurd (none t a b)),
-        span_whole (is_in_base more) low high high to (omega arith)
-            (λ t a b. same_before t (omega arith) ∙ passes t a b) (λ t a b. absurd (none t a b)),
-        ← append-nil (span_between low high),
-      ) (skip low high [] [] from (omega arith) is)))
-      (λ low last xs ys from le to steps. skip low last xs ys from (omega arith) steps)
-      r (d * r) (d * r) (omega arith) (omega arith) refl (λ t a b. absurd (omega arith)) in
-      rw (let w : high - d * r ≡ r = omega arith in w) at all
+      let all = walk (is_in_base ss) (is_in_base more) (d * r) (d * r + r) top (Steps before after) ends
+      (λ t low. same_before t (omega arith)) last
+      (λ low end xs ys from le less steps. skipped before after low end xs ys (omega arith) (λ _. grind arith) steps)
+      (top - d * r) (d * r) (d * r) (omega arith) (omega arith) (omega arith) (λ t a b. absurd (omega arith)) in
+      rw (let w : d * r + r - d * r ≡ r = omega arith in w) at all
 
-  -- the spans of its own cell, from a number on that is in its run or where that begins
-  own_run : (low : ℕ) → c * v.repeats ≤ low → low ≤ x.piece.first → Gives (is_in_base ss) true low x.piece.first
-      → Steps [] [] (spans (is_in_base ss) low (c * v.repeats + v.repeats - low))
-      (spans (is_in_base more) low (c * v.repeats + v.repeats - low))
-  own_run low from to passes =
+  cell_before : (d : ℕ) (before after : List Slip) → d < c → after ≡ with_slip v before x
+      → cell v more d ++ after ≡ with_slip v (cell v ss d ++ before) x
+  cell_before d before after less is =
+      let high : ℕ = d * v.repeats + v.repeats in
+      let starts = comes.facts.starts in
+      let later : suc d * v.repeats ≤ c * v.repeats = mul-le-mul_right v.repeats less in
+      one_cell d high before after (omega arith) (omega arith) (omega arith) (λ low from to passes.
+      rw (
+        span_whole (is_in_base ss) low high high to (omega arith) passes (λ t a b. absurd (omega arith)),
+        span_whole (is_in_base more) low high high to (omega arith)
+            (λ t a b. same_before t (omega arith) ∙ passes t a b) (λ t a b. absurd (omega arith)),
+        ← append-nil (span_between low high),
+      ) (skipped before after low high [] [] (omega arith) (λ inside. grind (arith, cell_is)) is))
+
+  -- its own cell
+  cell_own : cell v more c ++ [] ≡ with_slip v (cell v ss c ++ []) x
+  cell_own =
       let a : ℕ = x.piece.first in
       let b : ℕ = x.piece.first + x.piece.count in
       let high : ℕ = c * v.repeats + v.repeats in
       let some = comes.facts.some in
       let ends = comes.facts.ends in
-      let before : Piece = record { first = low; count = a - low } in
+      one_cell c a [] [] comes.facts.starts (omega arith) (omega arith) (λ low from to passes.
+      (let before : Piece = record { first = low; count = a - low } in
       let run : Piece = record { first = low; count = b - low } in
-      let sum : Totals = slip_sum (slips_of_run more run) in
-      let one : ℕ → ℕ → Totals → List Slip = λ m n t.
-      record { piece = record { first = m; count = n }; totals = t } ∷ [] in
+      let sums : slip_sum (slips_of_run more run) ≡ slip_sum (slips_of_run ss before ++ x ∷ []) =
+      ap slip_sum (own_slips low to) in
       rw (
         span_whole (is_in_base ss) low a high to (omega arith) passes (λ t le _. none_from t le),
         span_whole (is_in_base more) low b high (omega arith) ends (λ t le less. grind (arith, same_before, own_trials))
@@ -151,35 +154,17 @@ module _ (v : Values) (ss : List Slip) (x : Slip) (c : ℕ) (comes : ComesAfter 
         lt-ltb low b (omega arith),
       ) (elim (cases_lt low a) [
         | inl less ↦
-            (let count : b - low ≡ a - low + x.piece.count = omega arith in
-            let adjoin : adjoins v before x.piece ≡ true = grind (arith, cell_is) in
-            let sums = ap slip_sum (own_slips low to) ∙ sum_more (slips_of_run ss before) in
-            rw (lt-ltb low a less, adjoin) (ap (λ n. one low n sum) count ∙ ap (one low (a - low + x.piece.count)) sums))
+            (let adjoin : adjoins v before x.piece ≡ true = grind (arith, cell_is) in
+            rw (lt-ltb low a less, adjoin) (grind (arith, sums, sum_by_push)))
         | inr most ↦
             (let none : slips_of_run ss before ≡ [] = filter-none (λ s. is_in before s.piece.first) ss
             (λ k d within. grind (arith, nat_tests, comes.earlier k d within)) in
-            let sums : sum ≡ x.totals =
-            ap slip_sum (own_slips low to ∙ ap (λ xs. xs ++ x ∷ []) none) ∙ one_sum in
-            let first : low ≡ a = omega arith in
-            let count : b - low ≡ x.piece.count = omega arith in
-            rw (le-ltb low a most) (ap (λ m. one m (b - low) sum) first ∙ ap (λ n. one a n sum) count
-            ∙ ap (one a x.piece.count) sums))
-      ])
-
-  cell_own : Steps [] [] (spans (is_in_base ss) (c * v.repeats) v.repeats) (spans (is_in_base more) (c * v.repeats) v.repeats)
-  cell_own =
-      let r : ℕ = v.repeats in
-      let starts = comes.facts.starts in
-      let ends = comes.facts.ends in
-      let all = walk (is_in_base ss) (is_in_base more) (c * r) (c * r + r) x.piece.first (Steps [] []) (omega arith)
-      same_before own_run (λ low last xs ys from le less steps.
-      skipped [] [] low last xs ys (omega arith) (λ some. grind arith) steps)
-      (x.piece.first - c * r) (c * r) (c * r) (omega arith) (omega arith) (omega arith) (λ t a b. absurd (omega arith)) in
-      rw (let w : c * r + r - c * r ≡ r = omega arith in w) at all
+            rw (le-ltb low a most) (grind (arith, sums, none, sum_by-cons)))
+      ])))
 
 -- from a number on that no slip has, cells have no runs
 cells_after : (v : Values) (ss : List Slip) (d m : ℕ) → ((t : ℕ) → d * v.repeats ≤ t → is_in_base ss t ≡ false)
-    → flat_map (λ e. made ss (spans (is_in_base ss) (e * v.repeats) v.repeats)) (range_with_len d m) ≡ []
+    → cells v ss d m ≡ []
 cells_after v ss d zero none = refl
 cells_after v ss d (suc m) none =
     rw (spans_none (is_in_base ss) (d * v.repeats) v.repeats (λ t le _. none t le))
@@ -187,45 +172,42 @@ cells_after v ss d (suc m) none =
 
 -- the cells from number d on, its own among them
 cells_more : (v : Values) (ss : List Slip) (x : Slip) (c d m : ℕ) → ComesAfter v ss x c → d ≤ c → c < d + m
-    → flat_map (λ e. made (ss ++ x ∷ []) (spans (is_in_base (ss ++ x ∷ [])) (e * v.repeats) v.repeats)) (range_with_len d m)
-    ≡ with_slip v (flat_map (λ e. made ss (spans (is_in_base ss) (e * v.repeats) v.repeats)) (range_with_len d m)) x
+    → cells v (ss ++ x ∷ []) d m ≡ with_slip v (cells v ss d m) x
 cells_more v ss x c d zero comes from to = absurd (omega arith)
 cells_more v ss x c d (suc m) comes from to = elim (cases_lt d c) [
-  | inl less ↦ cell_before v ss x c comes d
-      (flat_map (λ e. made ss (spans (is_in_base ss) (e * v.repeats) v.repeats)) (range_with_len (d + 1) m))
-      (flat_map (λ e. made (ss ++ x ∷ []) (spans (is_in_base (ss ++ x ∷ [])) (e * v.repeats) v.repeats))
-      (range_with_len (d + 1) m)) less (cells_more v ss x c (d + 1) m comes (omega arith) (omega arith))
+  | inl less ↦ cell_before v ss x c comes d (cells v ss (d + 1) m) (cells v (ss ++ x ∷ []) (d + 1) m) less
+      (cells_more v ss x c (d + 1) m comes (omega arith) (omega arith))
   | inr most ↦
       (let same : c ≡ d = omega arith in
       let ends = comes.facts.ends in
-      let past : (t : ℕ) → (d + 1) * v.repeats ≤ t → x.piece.first + x.piece.count ≤ t = λ t le.
-      (let next : (d + 1) * v.repeats ≡ c * v.repeats + v.repeats = rw same (omega arith) in omega arith) in
+      let next : (d + 1) * v.repeats ≡ c * v.repeats + v.repeats = rw same (omega arith) in
       rw (
-        cells_after v ss (d + 1) m (λ t le. none_from v ss x c comes t (let far = past t le in omega arith)),
-        cells_after v (ss ++ x ∷ []) (d + 1) m (λ t le. none_after v ss x c comes t (past t le)),
+        cells_after v ss (d + 1) m (λ t le. none_from v ss x c comes t (omega arith)),
+        cells_after v (ss ++ x ∷ []) (d + 1) m (λ t le. none_after v ss x c comes t (omega arith)),
         ← same,
       ) (cell_own v ss x c comes))
 ]
 
--- the runs of all cells, as spans
-by_spans : (v : Values) (ss : List Slip) (cs : List ℕ) → map (slip_of_run ss) (flat_map (runs_of_cell v ss) cs)
-    ≡ flat_map (λ c. made ss (spans (is_in_base ss) (c * v.repeats) v.repeats)) cs
-by_spans v ss [] = refl
-by_spans v ss (c ∷ cs) =
-    rw (map-append (slip_of_run ss) (runs_of_cell v ss c) (flat_map (runs_of_cell v ss) cs), by_spans v ss cs)
-    (ap (λ xs. xs ++ flat_map (λ c. made ss (spans (is_in_base ss) (c * v.repeats) v.repeats)) cs)
-    (map-map piece_at (slip_of_run ss) (spans (is_in_base ss) (c * v.repeats) v.repeats)))
+-- the runs of cells, as spans
+by_cells : (v : Values) (ss : List Slip) (d m : ℕ)
+    → map (slip_of_run ss) (flat_map (runs_of_cell v ss) (range_with_len d m)) ≡ cells v ss d m
+by_cells v ss d zero = refl
+by_cells v ss d (suc m) =
+    rw (
+      map-append (slip_of_run ss) (runs_of_cell v ss d) (flat_map (runs_of_cell v ss) (range_with_len (d + 1) m)),
+      by_cells v ss (d + 1) m,
+      map-map piece_at (slip_of_run ss) (spans (is_in_base ss) (d * v.repeats) v.repeats),
+    )
 
 pub none_joined : (v : Values) → joined v [] ≡ []
 unfolding joined
-none_joined v =
-    by_spans v [] (range_with_len 0 (length (cells_of v))) ∙ cells_after v [] 0 (length (cells_of v)) (λ t le. refl)
+none_joined v = by_cells v [] 0 (length (cells_of v)) ∙ cells_after v [] 0 (length (cells_of v)) (λ t le. refl)
 
 pub joined_more : (v : Values) (ss : List Slip) (x : Slip) (c : ℕ) → ComesAfter v ss x c
     → joined v (ss ++ x ∷ []) ≡ with_slip v (joined v ss) x
 unfolding joined
 joined_more v ss x c comes =
-    let cells : List ℕ = range_with_len 0 (length (cells_of v)) in
+    let n : ℕ = length (cells_of v) in
     let cell = comes.facts.cell in
-    by_spans v (ss ++ x ∷ []) cells ∙ cells_more v ss x c 0 (length (cells_of v)) comes (omega arith) (omega arith)
-    ∙ ap (λ js. with_slip v js x) (sym (by_spans v ss cells))
+    by_cells v (ss ++ x ∷ []) 0 n ∙ cells_more v ss x c 0 n comes (omega arith) (omega arith)
+    ∙ ap (λ js. with_slip v js x) (sym (by_cells v ss 0 n))

@@ -11,6 +11,7 @@ pub fn shares_are_a_partition()
 
 /// Shares take turns: of as many blocks in a row as there are shares, each share has exactly one. So the numbers of
 /// blocks of two shares differ by one at most.
+#[tactic(auto, using(crate::proofs::Turns::take_turns))]
 pub fn shares_are_balanced()
     ensures { SharesTakeTurns }
 {}

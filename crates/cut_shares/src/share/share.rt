@@ -72,6 +72,7 @@ impl Share {
     }
 
     /// How many trials of a plan it has.
+    #[tactic(auto, using(crate::proofs::Counting::count_all, crate::proofs::Counting::count_at_most))]
     pub fn trials(self, plan: &Plan) -> u32
         ensures { result ≡ length (trials_of_share self plan.now) }
     {
@@ -83,6 +84,7 @@ impl Share {
     }
 
     /// How many trials of a cell it has.
+    #[tactic(auto, using(crate::proofs::Counting::block_counted, crate::proofs::Counting::count_at_most))]
     fn trials_in_cell(self, plan: &Plan, cell: u32) -> u32
         requires { cell < length (cells_of plan.now) }
         ensures { result ≡ count_by (is_in_share self plan.now) (trials_of_cell plan.now cell) }

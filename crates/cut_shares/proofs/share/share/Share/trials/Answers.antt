@@ -1,17 +1,9 @@
 use Rattle.std.proofs.Common.{arith}
-use Rattle.cut_shares.proofs.Counting.{count_all, count_at_most, count_cell}
+use Rattle.cut_shares.proofs.Counting.{count_cell}
 use Rattle.cut_shares.proofs.share.share.Share.trials.Goals as goal
-
-pub overflow_add-count : goal.overflow_add-count
-overflow_add-count c =
-    grind (arith, count_at_most)
 
 pub loop-cell-preserved : goal.loop-cell-preserved
 loop-cell-preserved c =
     let counted = c.loop-cell.invariant in
     let own = c.trials_in_cell-count.ensures in
     omega (arith, counted, own, count_cell c.args.self c.args.plan.now c.loop-cell.cell)
-
-pub returns : goal.returns
-returns c =
-    grind (arith, count_all)
