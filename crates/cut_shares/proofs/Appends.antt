@@ -26,15 +26,17 @@ share_slips s v ps own = All-map (IsShareSlip s v) (slip_at v) ps (λ k d low. (
 
 -- ---- tasks
 
+-- the slips of those that have a result
+abbrev pub slips_of : Values → List PieceTask → List Slip
+slips_of v tasks = slips_at v (done_of tasks)
+
 pub done_one : (v : Values) (task : PieceTask) (r : Computed) → task.result ≡ Some r → IsRun v task
-    → (r ≡ record { plan = v; piece = task.piece }) × (slips_at v (done_of (task ∷ [])) ≡ slip_of r ∷ [])
+    → (r ≡ record { plan = v; piece = task.piece }) × (slips_of v (task ∷ []) ≡ slip_of r ∷ [])
 done_one v task r some run =
     let is : r ≡ record { plan = v; piece = task.piece } = rw some at run in
     (is, rw some (ap (λ (x : Computed). slip_of x ∷ []) (sym is)))
 
--- tasks one after another
-pub slips-append : (v : Values) (xs ys : List PieceTask)
-    → slips_at v (done_of (xs ++ ys)) ≡ slips_at v (done_of xs) ++ slips_at v (done_of ys)
+slips-append : (v : Values) (xs ys : List PieceTask) → slips_of v (xs ++ ys) ≡ slips_of v xs ++ slips_of v ys
 slips-append v xs ys =
     rw (
       filter-append has_result xs ys,
@@ -42,20 +44,17 @@ slips-append v xs ys =
       map-append (slip_at v) (done_of xs) (done_of ys),
     )
 
-pub slips_more : (v : Values) (tasks : List PieceTask) (i : ℕ) (task : PieceTask) → i < length tasks
-    → task ≡ get_or tasks i task
-    → slips_at v (done_of (take i tasks)) ++ slips_at v (done_of (task ∷ [])) ≡ slips_at v (done_of (take (i + 1) tasks))
-slips_more v tasks i task low is =
-    sym (slips-append v (take i tasks) (task ∷ []))
-    ∙ ap (λ (x : PieceTask). slips_at v (done_of (take i tasks ++ x ∷ []))) is
-    ∙ ap (λ (l : List PieceTask). slips_at v (done_of l)) (sym (take_more tasks i task low))
+-- of tasks one after another: those before, this one, and those after it
+module _ (v : Values) (tasks : List PieceTask) (i : ℕ) (task : PieceTask) (low : i < length tasks)
+    (is : task ≡ get_or tasks i task) where
+  pub slips_more : slips_of v (take i tasks) ++ slips_of v (task ∷ []) ≡ slips_of v (take (i + 1) tasks)
+  slips_more =
+      sym (slips-append v (take i tasks) (task ∷ [])) ∙ ap (λ x. slips_of v (take i tasks ++ x ∷ [])) is
+      ∙ ap (slips_of v) (sym (take_more tasks i task low))
 
--- those before, this one, and those after it
-pub slips_split : (v : Values) (tasks : List PieceTask) (i : ℕ) (task : PieceTask) → i < length tasks
-    → task ≡ get_or tasks i task
-    → slips_at v (done_of tasks)
-    ≡ (slips_at v (done_of (take i tasks)) ++ slips_at v (done_of (task ∷ []))) ++ slips_at v (done_of (drop (i + 1) tasks))
-slips_split v tasks i task low is =
-    ap (λ (l : List PieceTask). slips_at v (done_of l)) (sym (take-append-drop (i + 1) tasks))
-    ∙ slips-append v (take (i + 1) tasks) (drop (i + 1) tasks)
-    ∙ ap (λ (ss : List Slip). ss ++ slips_at v (done_of (drop (i + 1) tasks))) (sym (slips_more v tasks i task low is))
+  pub slips_split : slips_of v tasks
+      ≡ (slips_of v (take i tasks) ++ slips_of v (task ∷ [])) ++ slips_of v (drop (i + 1) tasks)
+  slips_split =
+      ap (slips_of v) (sym (take-append-drop (i + 1) tasks))
+      ∙ slips-append v (take (i + 1) tasks) (drop (i + 1) tasks)
+      ∙ ap (λ ss. ss ++ slips_of v (drop (i + 1) tasks)) (sym slips_more)

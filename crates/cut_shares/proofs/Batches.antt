@@ -10,7 +10,7 @@ use Rattle.cut_lists.proofs.Parts.{count_first}
 use Rattle.cut_ledger.proofs.Law.{times-append}
 use Rattle.cut_journal.specs.declared.store_fault.StoreFault.TheVariants.{Broken, Disk}
 use Rattle.cut_journal.proofs.Adding.{adding_stops, all_added}
-use Rattle.cut_shares.proofs.Appends.{pieces_back, share_slips}
+use Rattle.cut_shares.proofs.Appends.{pieces_back, share_slips, slips_of}
 use Rattle.cut_shares.proofs.Goods.{All-first}
 use Rattle.cut_shares.proofs.Words.{Adds, All, AreParted, AreWithin, DiskLog, EndsAdding, EndsPieces, IsSharePiece}
 use Rattle.cut_shares.proofs.Words.{IsShareSlip, IsUpTo, IsWhole, JournalValue, Piece, PieceTask, Share, Slip}
@@ -50,7 +50,8 @@ module _ (s : Share) (v : Values) (all : List Piece) where
       → ((t : ℕ) → times_in (pieces_of tasks) t + own_times s v next t ≡ own_times s v left t)
       → AreParted s v all (done ++ done_of tasks) (lost ++ lost_of tasks) next
   parted_more done lost left next tasks parted own times = record {
-    done_own = All-append (IsSharePiece s v) done (done_of tasks) parted.done_own (own_filtered s v has_result tasks own);
+    done_own = All-append (IsSharePiece s v) done (done_of tasks) parted.done_own
+        (own_filtered s v has_result tasks own);
     lost_own = All-append (IsSharePiece s v) lost (lost_of tasks) parted.lost_own
         (own_filtered s v (λ x. not (has_result x)) tasks own);
     times = λ t. omega (
@@ -96,8 +97,8 @@ module _ (s : Share) (v : Values) (all : List Piece) where
 
     -- the adding of pieces' slips stopped
     pieces_stop : (e : StoreFault) (done : List Piece) (new : JournalValue D) → All (IsSharePiece s v) done
-        → ((t : ℕ) → times_in done t ≤ own_times s v all t) → EndsAdding {T = Bool} log (Err e) (slips_at v done) old new
-        → EndsPieces log (Err e) s v all old new
+        → ((t : ℕ) → times_in done t ≤ own_times s v all t)
+        → EndsAdding {T = Bool} log (Err e) (slips_at v done) old new → EndsPieces log (Err e) s v all old new
     pieces_stop Broken done new own times (added, failed, is) =
         let low = is.1.0 in
         let at = some_time done own (omega (arith, low, length-map done (slip_at v))) in
@@ -116,36 +117,37 @@ module _ (s : Share) (v : Values) (all : List Piece) where
 
     -- one batch more
     module _ (whole : Bool) (left next : List Piece) (tasks : List PieceTask) (mid new : JournalValue D)
-        (before : IsUpTo log whole s v all left old mid) (plan : mid.plan ≡ v) (own : All (IsSharePiece s v) (pieces_of tasks))
+        (before : IsUpTo log whole s v all left old mid) (plan : mid.plan ≡ v)
+        (own : All (IsSharePiece s v) (pieces_of tasks))
         (times : (t : ℕ) → times_in (pieces_of tasks) t + own_times s v next t ≡ own_times s v left t) where
       parted : AreParted s v all (before.done ++ done_of tasks) (before.lost ++ lost_of tasks) next
       parted = parted_more before.done before.lost left next tasks before.parted own times
 
       slips_join : slips_at v (before.done ++ done_of tasks)
-          ≡ slips_at v before.done ++ slips_at mid.plan (done_of tasks)
+          ≡ slips_at v before.done ++ slips_of mid.plan tasks
       slips_join = rw plan (map-append (slip_at v) before.done (done_of tasks))
 
       -- its results are kept
       pub batch_more : (done : Bool) → done ≡ list_all has_result tasks
-          → EndsAdding {T = Bool} log (Ok done) (slips_at mid.plan (done_of tasks)) mid new
+          → EndsAdding {T = Bool} log (Ok done) (slips_of mid.plan tasks) mid new
           → IsUpTo log (whole && done) s v all next old new
       batch_more done is ends = record {
         done = before.done ++ done_of tasks;
         lost = before.lost ++ lost_of tasks;
         parted = parted;
         sufficed = whole_more whole done before.lost tasks before.sufficed is;
-        kept = all_added {T = Bool} log done (slips_at v before.done) (slips_at mid.plan (done_of tasks))
+        kept = all_added {T = Bool} log done (slips_at v before.done) (slips_of mid.plan tasks)
             (slips_at v (before.done ++ done_of tasks)) old mid new (sym slips_join) before.kept ends;
       }
 
       -- or it ends the run
-      pub batch_stops : (e : StoreFault) → EndsAdding {T = Bool} log (Err e) (slips_at mid.plan (done_of tasks)) mid new
+      pub batch_stops : (e : StoreFault) → EndsAdding {T = Bool} log (Err e) (slips_of mid.plan tasks) mid new
           → EndsPieces log (Err e) s v all old new
       batch_stops e ends =
           pieces_stop e (before.done ++ done_of tasks) new parted.done_own (λ t. omega (arith, parted.times t))
-          (adding_stops Bool Bool log e (slips_at v before.done) (slips_at mid.plan (done_of tasks)) []
+          (adding_stops Bool Bool log e (slips_at v before.done) (slips_of mid.plan tasks) []
           (slips_at v (before.done ++ done_of tasks)) old mid new
-          (slips_join ∙ sym (append-nil (slips_at v before.done ++ slips_at mid.plan (done_of tasks)))) before.kept ends)
+          (slips_join ∙ sym (append-nil (slips_at v before.done ++ slips_of mid.plan tasks))) before.kept ends)
 
     -- nothing is left
     pub up_to_end : (whole : Bool) (left : List Piece) (new : JournalValue D) → IsUpTo log whole s v all left old new

@@ -4,7 +4,8 @@ use Rattle.std.proofs.lemmas.List.{map-append, take_more_set}
 use Rattle.cut_shares.proofs.Words.{Computed, Piece, PieceTask, Share, Values, pieces_of}
 
 pub dealt : (tasks : List PieceTask) (n : ℕ) (p : Piece) (result : Option Computed) → n < length tasks
-    → pieces_of (take (n + 1) (set tasks n (record { piece = p; result = result }))) ≡ pieces_of (take n tasks) ++ p ∷ []
+    → pieces_of (take (n + 1) (set tasks n (record { piece = p; result = result })))
+    ≡ pieces_of (take n tasks) ++ p ∷ []
 dealt tasks n p result low =
     ap pieces_of (take_more_set tasks n (record { piece = p; result = result }) low)
     ∙ map-append (λ (x : PieceTask). x.piece) (take n tasks) (record { piece = p; result = result } ∷ [])

@@ -5,7 +5,7 @@ use Rattle.std.proofs.Math.Seq.{drop-cons, take-suc}
 use Rattle.std.proofs.lemmas.Bool.{leb-false, leb-true}
 use Rattle.std.proofs.lemmas.Bool.Decides.{nat_tests}
 use Rattle.std.proofs.lemmas.List.{get_or-take, get_or_append_left, length-append, length-take, take_all, take_more}
-use Rattle.std.proofs.lemmas.List.Elements.{All-from_get_or, All-nil}
+use Rattle.std.proofs.lemmas.List.Elements.{All-from_get_or}
 use Rattle.std.proofs.lemmas.List.Folds.{list_any_at}
 use Rattle.std.proofs.lemmas.List.Sorted.{All-permutation, IsNonDecreasingBy-short, IsPermutation-cons}
 use Rattle.std.proofs.lemmas.List.Sorted.{IsPermutation-map, IsPermutation-refl, IsPermutation-insert}
@@ -27,6 +27,10 @@ pub All-first : {X : Type 0} (P : X → Type 0) (xs ys : List X) → All P (xs +
 All-first P xs ys all k d low =
     rw (get_or_append_left xs ys d k low) at (all k d (omega (arith, low, length-append xs ys)))
 
+-- what is read of a list where nothing is
+abbrev pub no_slip : Slip
+no_slip = record { piece = record { first = 0; count = 0 }; totals = each_number (λ n. 0) }
+
 -- ---- sound slips that are apart
 
 -- a slip of a piece, with totals that are possible
@@ -44,25 +48,24 @@ good_apart : (v : Values) (ss : List Slip) (x : Slip) (t : ℕ) → IsGood v ss 
 good_apart v ss x t good here =
     grind (arith, none_passing (is_in_base ss) x.piece.first x.piece.count t good.apart)
 
-first_apart : (v : Values) (ss : List Slip) (d : Slip) (n t : ℕ) → AreGood v ss → n ≤ length ss
+first_apart : (v : Values) (ss : List Slip) (n t : ℕ) → AreGood v ss → n ≤ length ss
     → times_in (pieces_of_slips (take n ss)) t ≤ 1
-first_apart v ss d zero t good le = omega arith
-first_apart v ss d (suc n) t good le =
-    let x : Slip = get_or ss n d in
+first_apart v ss zero t good le = omega arith
+first_apart v ss (suc n) t good le =
+    let x : Slip = get_or ss n no_slip in
     let pre : List Slip = take n ss in
-    rw (take-suc ss n d (omega arith)) (grind (
+    rw (take-suc ss n no_slip (omega arith)) (grind (
       arith,
       times_more pre x t,
-      times_once pre t (first_apart v ss d n t good (omega arith)),
-      good_apart v pre x t (good n d (omega arith) (omega arith)),
+      times_once pre t (first_apart v ss n t good (omega arith)),
+      good_apart v pre x t (good n no_slip (omega arith) (omega arith)),
     ))
 
 pub good_sound : (v : Values) (ss : List Slip) → AreGood v ss → AreSound v ss
-good_sound v [] good = record { each = All-nil (IsSound v); apart = λ t. omega arith }
-good_sound v (s ∷ ss) good = record {
+good_sound v ss good = record {
   each = λ k d low. (let is = good k d low low in record { piece = is.piece; possible = is.possible });
-  apart = λ t. subst (λ (xs : List Slip). times_in (pieces_of_slips xs) t ≤ 1) (take_all (length (s ∷ ss)) (s ∷ ss)
-      (omega arith)) (first_apart v (s ∷ ss) s (length (s ∷ ss)) t good (omega arith));
+  apart = λ t. subst (λ (xs : List Slip). times_in (pieces_of_slips xs) t ≤ 1) (take_all (length ss) ss (omega arith))
+      (first_apart v ss (length ss) t good (omega arith));
 }
 
 pub sound_good : (v : Values) (ss : List Slip) → AreSound v ss → AreGood v ss
@@ -92,11 +95,14 @@ pub record Ascend (v : Values) (ss : List Slip) : Type 0 where
 pub ascend_of : (v : Values) (ss : List Slip) → AreAscending v ss → Ascend v ss
 ascend_of v ss are = record { pieces = λ k d low. (are.small k d low).piece; ascend = are.ascend }
 
+-- slips in the order of their first trials
+abbrev InOrder : List Slip → Type 0
+InOrder ss = IsNonDecreasingBy (λ s. s.piece.first) ss
+
 some_repeats : (v : Values) (p : Piece) → IsTrue (is_piece v p) → 0 < v.repeats
 some_repeats v p piece = grind arith
 
-pub good_ascend : (v : Values) (ss : List Slip) → AreGood v ss → IsNonDecreasingBy (λ (s : Slip). s.piece.first) ss
-    → Ascend v ss
+pub good_ascend : (v : Values) (ss : List Slip) → AreGood v ss → InOrder ss → Ascend v ss
 good_ascend v ss good sorted = record {
   pieces = λ k d low. (good k d low low).piece;
   ascend = λ i j d less within. (let x : Slip = get_or ss j d in
@@ -121,8 +127,8 @@ sound_small v s plan sound = record {
 }
 
 -- good slips in the order of their first trials
-pub moved_ascending : (v : Values) (ss xs : List Slip) → IsPlan v → AreGood v ss → IsPermutation ss xs
-    → IsNonDecreasingBy (λ (s : Slip). s.piece.first) xs → AreAscending v xs
+pub moved_ascending : (v : Values) (ss xs : List Slip) → IsPlan v → AreGood v ss → IsPermutation ss xs → InOrder xs
+    → AreAscending v xs
 moved_ascending v ss xs plan good moved sorted =
     let sound = sound_moved v ss xs moved (good_sound v ss good) in
     record {
@@ -151,20 +157,18 @@ pub joined_next : (v : Values) (ss : List Slip) (i : ℕ) (d : Slip) → Ascend 
     → joined v (take (i + 1) ss) ≡ with_slip v (joined v (take i ss)) (get_or ss i d)
 joined_next v ss i d is within =
     ap (joined v) (take_more ss i d within)
-    ∙ joined_more v (take i ss) (get_or ss i d) ((get_or ss i d).piece.first / v.repeats) (comes_next v ss i d is within)
+    ∙ joined_more v (take i ss) (get_or ss i d) ((get_or ss i d).piece.first / v.repeats)
+    (comes_next v ss i d is within)
 
 -- ---- slips in order
 
--- what is read of a list where nothing is
-abbrev pub no_slip : Slip
-no_slip = record { piece = record { first = 0; count = 0 }; totals = each_number (λ n. 0) }
-
 -- slips in order, and one that is put after those that do not begin later
-put_in_order : (xs : List Slip) (s : Slip) (n : ℕ) → IsNonDecreasingBy (λ (q : Slip). q.piece.first) xs → n ≤ length xs
+put_in_order : (xs : List Slip) (s : Slip) (n : ℕ) → InOrder xs → n ≤ length xs
     → ((k : ℕ) (d : Slip) → k < n → (get_or xs k d).piece.first ≤ s.piece.first)
     → ((d : Slip) → n < length xs → s.piece.first < (get_or xs n d).piece.first)
-    → IsNonDecreasingBy (λ (q : Slip). q.piece.first) (insert xs n s)
+    → InOrder (insert xs n s)
 put_in_order xs s n sorted few before after i j d le within =
+    let long = length-insert xs n s few in
     let first : ℕ → ℕ = λ k. (get_or (insert xs n s) k d).piece.first in
     let below : (k : ℕ) → k < n → first k ≡ (get_or xs k d).piece.first = λ k less.
     ap (λ (q : Slip). q.piece.first) (get_or-insert_below xs n s d k less few) in
@@ -172,24 +176,11 @@ put_in_order xs s n sorted few before after i j d le within =
     let above : (k : ℕ) → n < k → first k ≡ (get_or xs (k - 1) d).piece.first = λ k more.
     ap first (let w : k ≡ k - 1 + 1 = omega arith in w)
     ∙ ap (λ (q : Slip). q.piece.first) (get_or-insert_above xs n s d (k - 1) (omega arith) few) in
-    grind (
-      arith,
-      length-insert xs n s few,
-      below i,
-      below j,
-      at,
-      above i,
-      above j,
-      before i d,
-      after d,
-      sorted i j d,
-      sorted n (j - 1) d,
-      sorted (i - 1) (j - 1) d,
-    )
+    let low = before i d in
+    let high = after d in
+    grind (arith, below i, below j, above i, above j, sorted i j d, sorted n (j - 1) d, sorted (i - 1) (j - 1) d)
 
--- slips in the order of their first trials
-pub in_order : (ss : List Slip)
-    → (xs : List Slip) × (IsPermutation ss xs × IsNonDecreasingBy (λ (s : Slip). s.piece.first) xs)
+pub in_order : (ss : List Slip) → (xs : List Slip) × (IsPermutation ss xs × InOrder xs)
 in_order [] = ([], (IsPermutation-refl [], IsNonDecreasingBy-short (λ (s : Slip). s.piece.first) [] (omega arith)))
 in_order (s ∷ ss) =
     let found = in_order ss in

@@ -14,7 +14,8 @@ pub good_hold : (v w : Values) (slips : List Slip) → w ≡ v → AreGood v sli
 good_hold v w slips same good k d low =
     grind arith
 
-module _ {D : Type 0} (log : D → DiskLog) (v : Values) (ss : List Slip) (old new : JournalValue D) (same : old.plan ≡ v) where
+module _ {D : Type 0} (log : D → DiskLog) (v : Values) (ss : List Slip) (old new : JournalValue D)
+    (same : old.plan ≡ v) where
   pub joins_all : (n : ℕ) → n ≡ length (joined v ss) → EndsAdding {T = ⊤} log (Ok tt) (joined v ss) old new
       → EndsJoin log (Ok n) v ss old new
   joins_all n count (added, failed, is) = (added, failed, (is.0, (same, is.1, count)))

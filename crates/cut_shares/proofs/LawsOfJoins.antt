@@ -52,8 +52,8 @@ joined_moved v ss xs moved =
 
 -- ---- one slip after another
 
--- what holds of no slips, and stays where one of which Q holds comes after others, holds of the slips, in some order, and
--- of what they are joined
+-- what holds of no slips, and stays where one of which Q holds comes after others, holds of the slips, in some order,
+-- and of the joined ones
 by_slips : (v : Values) (Q : Slip → Type 0) (P : List Slip → List Slip → Type 0) → P [] []
     → ((pre js : List Slip) (x : Slip) → All (Precedes x) pre → Q x → P pre js → P (pre ++ x ∷ []) (with_slip v js x))
     → (ss : List Slip) → AreSound v ss → All Q ss → (xs : List Slip) × (IsPermutation ss xs × P xs (joined v ss))
@@ -65,7 +65,8 @@ by_slips v Q P none more ss sound all =
     let whole = go xs is (All-permutation Q ss xs moved all) (length xs) (omega arith) in
     (xs, (moved, rw (← joined_moved v ss xs moved) (rw (take_all (length xs) xs (omega arith)) at whole)))
   where
-    go : (xs : List Slip) → Ascend v xs → All Q xs → (n : ℕ) → n ≤ length xs → P (take n xs) (joined v (take n xs))
+    go : (xs : List Slip) → Ascend v xs → All Q xs → (n : ℕ) → n ≤ length xs
+        → P (take n xs) (joined v (take n xs))
     go xs is each zero le = rw (none_joined v) none
     go xs is each (suc n) le =
         let comes = comes_next v xs n no_slip is (omega arith) in
@@ -73,41 +74,38 @@ by_slips v Q P none more ss sound all =
         (more (take n xs) (joined v (take n xs)) (get_or xs n no_slip) comes.earlier (each n no_slip (omega arith))
         (go xs is each n (omega arith)))
 
--- what holds of all slips, if it holds of two that are merged
-joined_all : (v : Values) (ss : List Slip) (Q : Slip → Type 0) → AreSound v ss
-    → ((s x : Slip) → Adjoin v s x → Q s → Q x → Q (with_next s x)) → All Q ss → All Q (joined v ss)
-joined_all v ss Q sound merged all =
-    (by_slips v Q (λ pre js. All Q js) (All-nil Q)
-    (λ pre js x _ own each. with_all v x Q (λ s is one. merged s x is one own) own js each) ss sound all).1.1
+module _ (v : Values) (ss : List Slip) (sound : AreSound v ss) where
+  -- what holds of all slips, if it holds of two that are merged
+  joined_all : (Q : Slip → Type 0) → ((s x : Slip) → Adjoin v s x → Q s → Q x → Q (with_next s x)) → All Q ss
+      → All Q (joined v ss)
+  joined_all Q merged all =
+      (by_slips v Q (λ pre js. All Q js) (All-nil Q)
+      (λ pre js x _ own each. with_all v x Q (λ s is one. merged s x is one own) own js each) ss sound all).1.1
 
--- a sum over all slips, if two that are merged have the sum of both
-joined_sum : (v : Values) (ss : List Slip) (w : Slip → ℕ) → AreSound v ss
-    → ((s x : Slip) → Adjoin v s x → w (with_next s x) ≡ w s + w x)
-    → sum_by w (joined v ss) ≡ sum_by w ss
-joined_sum v ss w sound merged =
-    let found = by_slips v (IsSound v) (λ pre js. sum_by w js ≡ sum_by w pre) refl
-    (λ pre js x _ _ is. with_sum v x w (λ s. merged s x) js ∙ ap (λ n. n + w x) is ∙ sym (sum_by_push w pre x)) ss sound
-    sound.each in
-    found.1.1 ∙ sum_by-IsPermutation w ss found.0 found.1.0
+  -- a sum over all slips, if two that are merged have the sum of both
+  joined_sum : (w : Slip → ℕ) → ((s x : Slip) → Adjoin v s x → w (with_next s x) ≡ w s + w x)
+      → sum_by w (joined v ss) ≡ sum_by w ss
+  joined_sum w merged =
+      let found = by_slips v (IsSound v) (λ pre js. sum_by w js ≡ sum_by w pre) refl
+      (λ pre js x _ _ is. with_sum v x w (λ s. merged s x) js ∙ ap (λ n. n + w x) is ∙ sym (sum_by_push w pre x)) ss
+      sound sound.each in
+      found.1.1 ∙ sum_by-IsPermutation w ss found.0 found.1.0
 
--- ---- their trials
+  -- ---- their trials
 
-joined_count : (v : Values) (ss : List Slip) (t : ℕ) → AreSound v ss
-    → count_by (λ (s : Slip). is_in s.piece t) (joined v ss) ≡ count_by (λ (s : Slip). is_in s.piece t) ss
-joined_count v ss t sound =
-    joined_sum v ss (λ s. cond (is_in s.piece t) 1 0) sound (λ s x is. grind (arith, nat_tests, is))
+  joined_count : (t : ℕ)
+      → count_by (λ (s : Slip). is_in s.piece t) (joined v ss) ≡ count_by (λ (s : Slip). is_in s.piece t) ss
+  joined_count t = joined_sum (λ s. cond (is_in s.piece t) 1 0) (λ s x is. grind (arith, nat_tests, is))
 
-joined_times : (v : Values) (ss : List Slip) (t : ℕ) → AreSound v ss
-    → times_in (pieces_of_slips (joined v ss)) t ≡ times_in (pieces_of_slips ss) t
-joined_times v ss t sound =
-    count_by-map (λ p. is_in p t) (λ (s : Slip). s.piece) (joined v ss) ∙ joined_count v ss t sound
-    ∙ sym (count_by-map (λ p. is_in p t) (λ (s : Slip). s.piece) ss)
+  joined_times : (t : ℕ) → times_in (pieces_of_slips (joined v ss)) t ≡ times_in (pieces_of_slips ss) t
+  joined_times t =
+      count_by-map (λ p. is_in p t) (λ (s : Slip). s.piece) (joined v ss) ∙ joined_count t
+      ∙ sym (count_by-map (λ p. is_in p t) (λ (s : Slip). s.piece) ss)
 
-pub same_trials : (v : Values) (ss : List Slip) → AreSound v ss → (t : ℕ)
-    → is_in_base (joined v ss) t ≡ is_in_base ss t
-same_trials v ss sound t =
-    list_any-count_by (λ (s : Slip). is_in s.piece t) (joined v ss) ∙ ap (nat_lt 0) (joined_count v ss t sound)
-    ∙ sym (list_any-count_by (λ (s : Slip). is_in s.piece t) ss)
+  pub same_trials : (t : ℕ) → is_in_base (joined v ss) t ≡ is_in_base ss t
+  same_trials t =
+      list_any-count_by (λ (s : Slip). is_in s.piece t) (joined v ss) ∙ ap (nat_lt 0) (joined_count t)
+      ∙ sym (list_any-count_by (λ (s : Slip). is_in s.piece t) ss)
 
 -- ---- they are good
 
@@ -121,19 +119,17 @@ possible_more : (v : Values) (c : Cell) (m n : ℕ) (x y : Totals) → ArePossib
 possible_more v c m n x y one other =
     grind (arith, settled_more)
 
-sound_next : (v : Values) (s x : Slip) → Adjoin v s x → IsSound v s → IsSound v x
-    → IsSound v (with_next s x)
-sound_next v s x is one other =
-    record {
-      piece = next_piece v s x is one.piece other.piece;
-      possible = possible_more v (cell_at v s.piece.first) s.piece.count x.piece.count s.totals x.totals one.possible
-          (subst (λ c. ArePossible v (get_or (cells_of v) c no_cell) x.piece.count x.totals) (sym is.cell) other.possible);
-    }
+sound_next : (v : Values) (s x : Slip) → Adjoin v s x → IsSound v s → IsSound v x → IsSound v (with_next s x)
+sound_next v s x is one other = record {
+  piece = next_piece v s x is one.piece other.piece;
+  possible = possible_more v (cell_at v s.piece.first) s.piece.count x.piece.count s.totals x.totals one.possible
+      (subst (λ c. ArePossible v (get_or (cells_of v) c no_cell) x.piece.count x.totals) (sym is.cell) other.possible);
+}
 
 joined_sound : (v : Values) (ss : List Slip) → AreSound v ss → AreSound v (joined v ss)
 joined_sound v ss sound = record {
-  each = joined_all v ss (IsSound v) sound (sound_next v) sound.each;
-  apart = λ t. rw (joined_times v ss t sound) (sound.apart t);
+  each = joined_all v ss sound (IsSound v) (sound_next v) sound.each;
+  apart = λ t. rw (joined_times v ss sound t) (sound.apart t);
 }
 
 pub joined_good : (v : Values) (ss : List Slip) → IsPlan v → AreGood v ss → AreGood v (joined v ss)
@@ -141,8 +137,7 @@ joined_good v ss plan good = sound_good v (joined v ss) (joined_sound v ss (good
 
 -- ---- they are true
 
-true_next : (v : Values) (s x : Slip) → Adjoin v s x → IsTrueSlip v s → IsTrueSlip v x
-    → IsTrueSlip v (with_next s x)
+true_next : (v : Values) (s x : Slip) → Adjoin v s x → IsTrueSlip v s → IsTrueSlip v x → IsTrueSlip v (with_next s x)
 true_next v s x is one other = record {
   piece = next_piece v s x is one.piece other.piece;
   totals =
@@ -158,9 +153,9 @@ pub joined_true : TrueSlipsAreGood → (v : Values) (ss : List Slip) → IsPlan 
 joined_true good v ss plan are =
     let sound = good_sound v ss (good v ss are) in
     record {
-      each = recursion_from_All (IsTrueSlip v) (joined v ss) (joined_all v ss (IsTrueSlip v) sound (true_next v)
+      each = recursion_from_All (IsTrueSlip v) (joined v ss) (joined_all v ss sound (IsTrueSlip v) (true_next v)
           (All-from_recursion (IsTrueSlip v) ss are.each));
-      apart = λ t. rw (joined_times v ss t sound) (are.apart t);
+      apart = λ t. rw (joined_times v ss sound t) (are.apart t);
     }
 
 -- ---- they are apart
@@ -173,7 +168,8 @@ joined_apart v ss sound =
       with_apart v x js (All-weaker (Precedes x) _ (λ s last. last.ends) js (is.1 x before)) is.0,
       λ y all. (let own : Precedes y x = rw (get_or_push pre x x (length pre) refl) at
           (all (length pre) x (omega (arith, length_push pre x))) in
-          with_all v x (Precedes y) (λ s adjoin one. grind (arith, adjoin, one, own)) own js (is.1 y (All-first (Precedes y) pre (x ∷ []) all))),
+          with_all v x (Precedes y) (λ s adjoin one. grind (arith, adjoin, one, own)) own js
+          (is.1 y (All-first (Precedes y) pre (x ∷ []) all))),
     )) ss sound sound.each).1.1.0
 
 -- ---- sums of a cell
@@ -197,13 +193,12 @@ cell_slips : (v : Values) (ss : List Slip) (c : ℕ) → AreSound v ss
     → slip_sum (slips_of_cell v (joined v ss) c) ≡ slip_sum (slips_of_cell v ss c)
 cell_slips v ss c sound = same_sums (slips_of_cell v (joined v ss) c) (slips_of_cell v ss c) (λ n adds.
     sum_filter (λ (s : Slip). n s.totals) (λ s. s.piece.first / v.repeats == c) (joined v ss)
-    ∙ joined_sum v ss (λ s. cond (s.piece.first / v.repeats == c) (n s.totals) 0) sound
+    ∙ joined_sum v ss sound (λ s. cond (s.piece.first / v.repeats == c) (n s.totals) 0)
     (λ s x is. grind (arith, nat_tests, is, adds s.totals x.totals))
     ∙ sym (sum_filter (λ (s : Slip). n s.totals) (λ s. s.piece.first / v.repeats == c) ss))
 
 -- and so do the sums of each cell
-cell_sums : (v : Values) (ss : List Slip) (c : ℕ) → AreSound v ss
-    → full_sum v (joined v ss) c ≡ full_sum v ss c
+cell_sums : (v : Values) (ss : List Slip) (c : ℕ) → AreSound v ss → full_sum v (joined v ss) c ≡ full_sum v ss c
 cell_sums v ss c sound =
     let trials : (t : ℕ) → is_in_base (joined v ss) t ≡ is_in_base ss t = same_trials v ss sound in
     ap (λ (x : Totals). plus x (sum_of v (filter (λ t. not (is_in_base (joined v ss) t)) (trials_of_cell v c))))

@@ -45,6 +45,7 @@ none_left s v ps none =
     omega (arith, twice)
 
 -- what is no longer left is counted
-pub counted_more : (all old new count trials : ℕ) → count + new ≡ old → old ≤ all → trials ≡ min (all - old) (2 ^ 64 - 1)
+pub counted_more : (all old new count trials : ℕ) → count + new ≡ old → old ≤ all
+    → trials ≡ min (all - old) (2 ^ 64 - 1)
     → (new ≤ all) × (min (trials + count) (2 ^ 64 - 1) ≡ min (all - new) (2 ^ 64 - 1))
 counted_more all old new count trials taken few is = (omega (arith, taken, few), omega (arith, taken, few, is))

@@ -1,10 +1,10 @@
 -- Slips with one after them, which is merged with the last one if it goes on from there.
 use Rattle.std.proofs.Common.{◌≡◌, ℕ, zero, suc, ◌+◌, ◌/◌, ◌≤◌, true, false, List, [], ◌∷◌, ◌++◌, All, length, set}
-use Rattle.std.proofs.Common.{get_or, refl, ap, arith}
+use Rattle.std.proofs.Common.{get_or, refl, arith}
 use Rattle.std.specs.List.{sum_by}
 use Rattle.std.proofs.lemmas.List.Elements.{All-cons, All-head, All-nil, All-tail}
 use Rattle.std.proofs.lemmas.List.Sums.{sum_by-cons}
-use Rattle.cut_shares.proofs.Words.{AreApart, IsSmall, Slip, Values, adjoins, with_next, with_slip}
+use Rattle.cut_shares.proofs.Words.{AreApart, IsSmall, Slip, Values, adjoins, if◌then◌else◌, with_next, with_slip}
 
 -- ---- a slip that goes on where another ends
 
@@ -63,24 +63,10 @@ with_apart v x (s ∷ t ∷ ss) ends apart (suc i) d within =
 
 -- ---- as the code has them
 
--- it goes on from the last of them
-pub last_set : (v : Values) (ss : List Slip) (x y : Slip) (n : ℕ) → length ss ≡ n + 1 → y ≡ get_or ss n y
-    → adjoins v y.piece x.piece ≡ true → set ss n (with_next y x) ≡ with_slip v ss x
-last_set v [] x y n long at is = absurd (omega (arith, long))
-last_set v (s ∷ []) x y n long at is = grind arith
-last_set v (s ∷ t ∷ ss) x y zero long at is = absurd (omega (arith, long))
-last_set v (s ∷ t ∷ ss) x y (suc n) long at is =
-    ap (λ xs. s ∷ xs) (last_set v (t ∷ ss) x y n (omega (arith, long)) at is)
-
--- and it does not
-pub last_left : (v : Values) (ss : List Slip) (x y : Slip) (n : ℕ) → length ss ≡ n + 1 → y ≡ get_or ss n y
-    → adjoins v y.piece x.piece ≡ false → ss ++ x ∷ [] ≡ with_slip v ss x
-last_left v [] x y n long at is = absurd (omega (arith, long))
-last_left v (s ∷ []) x y n long at is = grind arith
-last_left v (s ∷ t ∷ ss) x y zero long at is = absurd (omega (arith, long))
-last_left v (s ∷ t ∷ ss) x y (suc n) long at is =
-    ap (λ xs. s ∷ xs) (last_left v (t ∷ ss) x y n (omega (arith, long)) at is)
-
-pub first_left : (v : Values) (ss : List Slip) (x : Slip) → length ss ≡ 0 → ss ++ x ∷ [] ≡ with_slip v ss x
-first_left v [] x none = refl
-first_left v (s ∷ ss) x none = absurd (omega (arith, none))
+-- by the last of them
+pub with_last : (v : Values) (ss : List Slip) (x y : Slip) (n : ℕ) → length ss ≡ n + 1 → y ≡ get_or ss n y
+    → with_slip v ss x ≡ (if adjoins v y.piece x.piece then set ss n (with_next y x) else ss ++ x ∷ [])
+with_last v [] x y n long at = absurd (omega (arith, long))
+with_last v (s ∷ []) x y n long at = grind arith
+with_last v (s ∷ t ∷ ss) x y zero long at = absurd (omega (arith, long))
+with_last v (s ∷ t ∷ ss) x y (suc n) long at = grind (arith, with_last v (t ∷ ss) x y n (omega (arith, long)) at)

@@ -1,6 +1,6 @@
 use Rattle.std.proofs.Common.{rules, ◌≡◌, ◌-◌, ◌∙◌, List, true, set, sym, ap}
-use Rattle.std.proofs.lemmas.List.{get_or_default}
-use Rattle.cut_shares.proofs.Merges.{first_left, last_left, last_set}
+use Rattle.std.proofs.lemmas.List.{get_or_default, nil_from_length}
+use Rattle.cut_shares.proofs.Merges.{with_last}
 use Rattle.cut_shares.proofs.Words.{Slip, adjoins}
 use Rattle.cut_shares.proofs.join.joined.add.Goals.{else-before-gt0-via-then-before-gt0+else-adjoins}
 use Rattle.cut_shares.proofs.join.joined.add.Goals.{else-before-gt0-via-else-before-gt0}
@@ -16,14 +16,14 @@ returns-then-adjoins c =
     c.index.ensures ∙ get_or_default olds n c.index.result.now made (search rules) ∙ sym again in
     let is : adjoins c.args.plan.now made.piece c.args.slip.piece ≡ true = search rules in
     ap (λ (s : Slip). set olds n s) c.with_next.ensures
-    ∙ last_set c.args.plan.now olds c.args.slip made n (search rules) again is
+    ∙ sym (rw is at (with_last c.args.plan.now olds c.args.slip made n (search rules) again))
 
 pub returns : goal.returns
 returns c =
     elim c.else-before-gt0.branch [
       | else-before-gt0-via-then-before-gt0+else-adjoins w ↦ c.in_ok-push.ensures.items
-          ∙ last_left c.args.plan.now c.args.merged.now.items c.args.slip w.index.result.now (c.len-before.result - 1)
-          (search rules) w.index.ensures (sym w.if-adjoins.ensures)
+          ∙ sym (rw (sym w.if-adjoins.ensures) at (with_last c.args.plan.now c.args.merged.now.items c.args.slip
+          w.index.result.now (c.len-before.result - 1) (search rules) w.index.ensures))
       | else-before-gt0-via-else-before-gt0 w ↦ c.in_ok-push.ensures.items
-          ∙ first_left c.args.plan.now c.args.merged.now.items c.args.slip (search rules)
+          ∙ rw (nil_from_length c.args.merged.now.items (search rules))
     ]

@@ -1,6 +1,5 @@
 use Rattle.std.proofs.Common.{◌≡◌, ◌∷◌}
-use Rattle.cut_shares.specs.share.inside.Batches.{IsUpTo}
-use Rattle.cut_shares.specs.share.inside.Pieces.{trials_in_all}
+use Rattle.cut_shares.proofs.Words.{IsUpTo, trials_in_all}
 use Rattle.cut_shares.proofs.share.batch.run_pieces.Given as goal
 
 -- the batches so far are worked off

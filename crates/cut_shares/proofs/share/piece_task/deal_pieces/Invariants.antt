@@ -1,7 +1,5 @@
 use Rattle.std.proofs.Common.{◌≡◌, ℕ, ◌+◌, ◌≤◌, ◌∷◌, take, All}
-use Rattle.cut_ledger.specs.World.{times_in}
-use Rattle.cut_shares.specs.share.inside.Pieces.{IsSharePiece, own_times, trials_in_all}
-use Rattle.cut_shares.specs.share.inside.Tasks.{pieces_of}
+use Rattle.cut_shares.proofs.Words.{IsSharePiece, own_times, pieces_of, times_in, trials_in_all}
 use Rattle.cut_shares.proofs.share.piece_task.deal_pieces.Given as goal
 
 -- the tasks so far have the first pieces

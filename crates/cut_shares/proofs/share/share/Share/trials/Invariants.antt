@@ -1,7 +1,5 @@
 use Rattle.std.proofs.Common.{◌≡◌, ◌*◌}
-use Rattle.std.specs.Prelude.{count_by}
-use Rattle.std.specs.List.{range_with_len}
-use Rattle.cut_shares.specs.share.Share.{is_in_share}
+use Rattle.cut_shares.proofs.Words.{count_by, is_in_share, range_with_len}
 use Rattle.cut_shares.proofs.share.share.Share.trials.Given as goal
 
 -- the share's trials in the cells so far are counted

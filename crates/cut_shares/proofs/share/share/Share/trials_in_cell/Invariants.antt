@@ -1,7 +1,5 @@
 use Rattle.std.proofs.Common.{◌≡◌, ◌*◌, min}
-use Rattle.std.specs.Prelude.{count_by}
-use Rattle.std.specs.List.{range_with_len}
-use Rattle.cut_shares.specs.share.Share.{is_in_share}
+use Rattle.cut_shares.proofs.Words.{count_by, is_in_share, range_with_len}
 use Rattle.cut_shares.proofs.share.share.Share.trials_in_cell.Given as goal
 
 -- the share's trials in the blocks so far are counted

@@ -1,6 +1,5 @@
 use Rattle.std.proofs.Common.{arith}
-use Rattle.std.specs.Prelude.{IsTrue}
-use Rattle.cut_outcome.specs.Sum.{is_piece}
+use Rattle.cut_shares.proofs.Words.{IsTrue, is_piece}
 use Rattle.cut_shares.proofs.PieceFacts.{part_is_piece}
 use Rattle.cut_shares.proofs.share.share_pieces.SharePieces.take_block.Goals as goal
 
