@@ -3,9 +3,9 @@ use Rattle.std.proofs.Common.{◌≡◌, ◌∙◌, ◌<◌, ◌+◌, ◌++◌, 
 use Rattle.std.proofs.Common.{take, drop, take-append-drop}
 use Rattle.std.proofs.lemmas.List.{map-append, take_more}
 use Rattle.std.proofs.lemmas.List.Elements.{All-map, filter-append}
+use Rattle.cut_lists.proofs.Intervals.{within_is}
 use Rattle.cut_lists.proofs.Ranges.{All-range_with_len}
 use Rattle.cut_ledger.specs.Machine.{slip_of}
-use Rattle.cut_shares.proofs.PieceFacts.{in_trials}
 use Rattle.cut_shares.proofs.Words.{All, Computed, IsRun, IsSharePiece, IsShareSlip, IsTrue, Piece, PieceTask, Share}
 use Rattle.cut_shares.proofs.Words.{Slip, Values, done_of, has_result, is_in_share, pieces_of_slips, slip_at, slips_at}
 
@@ -17,11 +17,13 @@ pieces_back v (p ∷ ps) = ap (λ (l : List Piece). p ∷ l) (pieces_back v ps)
 
 pub share_slips : (s : Share) (v : Values) (ps : List Piece) → All (IsSharePiece s v) ps
     → All (IsShareSlip s v) (slips_at v ps)
-share_slips s v ps own = All-map (IsShareSlip s v) (slip_at v) ps (λ k d low. (let is = own k d low in
+share_slips s v ps own = All-map (IsShareSlip s v) (slip_at v) ps (λ k d low.
+    (let p : Piece = get_or ps k d in
+    let is = own k d low in
     record {
       true = record { piece = is.piece; totals = refl };
-      own = All-range_with_len (λ t. IsTrue (is_in_share s v t)) (get_or ps k d).first (get_or ps k d).count
-          (λ t from below. is.own t (in_trials (get_or ps k d) t from below));
+      own = All-range_with_len (λ t. IsTrue (is_in_share s v t)) p.first p.count
+          (λ t from below. is.own t (within_is p.first (p.first + p.count) t from below));
     }))
 
 -- ---- tasks

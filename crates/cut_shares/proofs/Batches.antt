@@ -54,14 +54,7 @@ module _ (s : Share) (v : Values) (all : List Piece) where
         (own_filtered s v has_result tasks own);
     lost_own = All-append (IsSharePiece s v) lost (lost_of tasks) parted.lost_own
         (own_filtered s v (λ x. not (has_result x)) tasks own);
-    times = λ t. omega (
-      arith,
-      parted.times t,
-      times t,
-      times_parted tasks t,
-      times-append done (done_of tasks) t,
-      times-append lost (lost_of tasks) t,
-    );
+    times = λ t. omega (arith, parted.times t, times t, times_parted tasks t, times-append);
   }
 
   pub some_time : (ps : List Piece) → All (IsSharePiece s v) ps → 1 ≤ length ps → (t : ℕ) × (1 ≤ times_in ps t)
@@ -72,17 +65,13 @@ module _ (s : Share) (v : Values) (all : List Piece) where
   -- slips of the pieces so far
   within : (done : List Piece) (slips later : List Slip) → All (IsSharePiece s v) done
       → ((t : ℕ) → times_in done t ≤ own_times s v all t) → slips_at v done ≡ slips ++ later → AreWithin s v all slips
-  within done slips later own times are = record {
-    each = All-first (IsShareSlip s v) slips later (rw are at (share_slips s v done own));
-    times = λ t. omega (
-      arith,
-      times t,
-      ap (λ (l : List Piece). times_in l t) (pieces_back v done),
-      ap (λ (l : List Slip). times_in (pieces_of_slips l) t) are,
-      ap (λ (l : List Piece). times_in l t) (map-append (λ (x : Slip). x.piece) slips later),
-      times-append (pieces_of_slips slips) (pieces_of_slips later) t,
-    );
-  }
+  within done slips later own times are =
+      let same : pieces_of_slips slips ++ pieces_of_slips later ≡ done =
+      sym (map-append (λ (x : Slip). x.piece) slips later) ∙ ap pieces_of_slips (sym are) ∙ pieces_back v done in
+      record {
+        each = All-first (IsShareSlip s v) slips later (rw are at (share_slips s v done own));
+        times = λ t. omega (arith, times t, ap (λ l. times_in l t) same, times-append);
+      }
 
   module _ {D : Type 0} (log : D → DiskLog) (old : JournalValue D) where
     -- nothing is done yet

@@ -20,10 +20,11 @@ use Rattle.cut_journal.specs.declared.store_fault.StoreFault.TheVariants.{Broken
 use Rattle.cut_journal.proofs.Adding.{none_added}
 use Rattle.cut_shares.proofs.Appends.{pieces_back, share_slips}
 use Rattle.cut_shares.proofs.Batches.{some_time}
-use Rattle.cut_shares.proofs.Words.{All, AreGood, AreOfShare, CanRun, DiskLog, EndsPieces, EndsShare, IsFaultOfOpening}
-use Rattle.cut_shares.proofs.Words.{IsSharePiece, IsTrue, JournalValue, Piece, Share, Slip, StoreFault, Values}
-use Rattle.cut_shares.proofs.Words.{count_by, gaps_of, has, is_in_base, is_in_share, is_lacking, one_if, over_base}
-use Rattle.cut_shares.proofs.Words.{own_times, range_with_len, slips_at, times_in, trial_count, trials_of_share}
+use Rattle.cut_shares.proofs.Words.{All, AreGood, AreOfShare, AreWhole, CanRun, DiskLog, EndsPieces, EndsShare}
+use Rattle.cut_shares.proofs.Words.{IsFaultOfOpening, IsSharePiece, IsTrue, JournalValue, Piece, Share, Slip}
+use Rattle.cut_shares.proofs.Words.{StoreFault, Values, count_by, gaps_of, has, is_in_base, is_in_share, is_lacking}
+use Rattle.cut_shares.proofs.Words.{one_if, over_base, own_times, range_with_len, slips_at, times_in, trial_count}
+use Rattle.cut_shares.proofs.Words.{trials_of_share}
 
 -- ---- how often a trial is in the gaps
 
@@ -84,25 +85,13 @@ module _ {D : Type 0} (log : D → DiskLog) (s : Share) (v : Values) (ss : List 
     pub ends_whole : (n : ℕ) → n ≡ length (trials_of_share s v) → EndsPieces log (Ok true) s v all old new
         → EndsShare log (Ok n) s v ss old new
     ends_whole n count upto =
-        let whole : (t : ℕ) → times_in upto.done t ≡ one_if (is_lacking s v ss t) = λ t. omega (
-          arith,
-          upto.parted.times t,
-          begun.lack t,
-          ap (λ l. times_in l t) (nil_from_length upto.lost (upto.sufficed.none refl)),
-        ) in (
-          slips_at v upto.done,
-          None,
-          (
-            upto.kept,
-            (
-              count,
-              begun.can,
-              of_share upto.done upto.parted.done_own (λ t. omega (arith, whole t)),
-              λ t. ap (λ l. times_in l t) (pieces_back v upto.done) ∙ whole t,
-              refl,
-            ),
-          ),
-        )
+        let lost = nil_from_length upto.lost (upto.sufficed.none refl) in
+        let times : (t : ℕ) → times_in upto.done t ≡ one_if (is_lacking s v ss t) = λ t.
+        omega (arith, upto.parted.times t, begun.lack t, ap (λ l. times_in l t) lost) in
+        let of = of_share upto.done upto.parted.done_own (λ t. omega (arith, times t)) in
+        let whole : AreWhole s v ss (slips_at v upto.done) = λ t.
+        ap (λ l. times_in l t) (pieces_back v upto.done) ∙ times t in
+        (slips_at v upto.done, None, (upto.kept, (count, begun.can, of, whole, refl)))
 
     pub ends_short : EndsPieces log (Ok false) s v all old new → EndsShare log (Err WorkMemory) s v ss old new
     ends_short upto =
@@ -111,22 +100,12 @@ module _ {D : Type 0} (log : D → DiskLog) (s : Share) (v : Values) (ss : List 
         let low = at.1 in
         let sum = upto.parted.times t in
         let lack = begun.lack t in
-        let lacks = is_true (is_lacking s v ss t) (times_in upto.lost t) low (omega (arith, sum, lack)) in (
-          slips_at v upto.done,
-          None,
-          (
-            upto.kept,
-            (
-              begun.can,
-              of_share upto.done upto.parted.done_own (λ i. omega (arith, upto.parted.times i, begun.lack i)),
-              (
-                t,
-                still_lacking upto.done t (omega (arith, low, sum, lack, one_if-le (is_lacking s v ss t))) lacks,
-              ),
-              refl,
-            ),
-          ),
-        )
+        let of = of_share upto.done upto.parted.done_own
+        (λ i. omega (arith, upto.parted.times i, begun.lack i)) in
+        let lacks = is_true (is_lacking s v ss t) (times_in upto.lost t) low (omega (arith, sum, lack)) in
+        let none : times_in upto.done t ≡ 0 = omega (arith, low, sum, lack, one_if-le (is_lacking s v ss t)) in
+        let left = still_lacking upto.done t none lacks in
+        (slips_at v upto.done, None, (upto.kept, (begun.can, of, (t, left), refl)))
 
     ends_fault : (e : StoreFault) → EndsPieces log (Err e) s v all old new → EndsShare log (Err e) s v ss old new
     ends_fault Broken ends =

@@ -1,10 +1,10 @@
 -- How many trials of a share are left in pieces, once one of them is taken.
-use Rattle.std.proofs.Common.{◌≡◌, ℕ, ◌+◌, ◌-◌, ◌^◌, ◌≤◌, min, false, List, [], ◌∷◌, refl, arith}
+use Rattle.std.proofs.Common.{◌≡◌, ℕ, ◌+◌, ◌≤◌, false, List, [], ◌∷◌, refl, arith}
 use Rattle.std.proofs.lemmas.Bool.Decides.{nat_tests}
 use Rattle.std.proofs.lemmas.List.Sums.{sum_by-cons}
 use Rattle.cut_lists.proofs.Additions.{count_of_more}
+use Rattle.cut_lists.proofs.Intervals.{within_is}
 use Rattle.cut_shares.proofs.Counting.{count_alike}
-use Rattle.cut_shares.proofs.PieceFacts.{in_trials}
 use Rattle.cut_shares.proofs.Words.{IsTrue, Piece, Share, Values, all_trials, count_by, is_in, is_piece, one_if}
 use Rattle.cut_shares.proofs.Words.{own_times, own_trials, sum_by, trial_count}
 
@@ -21,7 +21,7 @@ piece_count v p piece =
     let more = count_of_more (λ t. false) (is_in p) 0 (trial_count v) p.first p.count (record {
       starts = omega arith;
       ends = omega arith;
-      inside = λ t from below. (refl, in_trials p t from below);
+      inside = λ t from below. (refl, within_is p.first (p.first + p.count) t from below);
       outside = λ t out. grind (arith, nat_tests, out);
     }) in
     omega (arith, more, count_alike (λ t. false) false 0 (trial_count v) (λ t from below. refl))
@@ -43,9 +43,3 @@ none_left s v ps none =
     let twice = sums_join (own_times s v ps) (own_times s v ps) (own_times s v ps) (all_trials v)
     (λ t. omega (arith, none t)) in
     omega (arith, twice)
-
--- what is no longer left is counted
-pub counted_more : (all old new count trials : ℕ) → count + new ≡ old → old ≤ all
-    → trials ≡ min (all - old) (2 ^ 64 - 1)
-    → (new ≤ all) × (min (trials + count) (2 ^ 64 - 1) ≡ min (all - new) (2 ^ 64 - 1))
-counted_more all old new count trials taken few is = (omega (arith, taken, few), omega (arith, taken, few, is))

@@ -1,9 +1,8 @@
 -- Pieces of a plan, and the parts that they are cut into.
-use Rattle.std.proofs.Common.{◌≡◌, ℕ, ◌+◌, ◌-◌, ◌%◌, ◌<◌, ◌≤◌, true, arith}
-use Rattle.cut_lists.proofs.Intervals.{within_is}
+use Rattle.std.proofs.Common.{◌≡◌, ℕ, ◌+◌, ◌-◌, ◌%◌, ◌<◌, ◌≤◌, arith}
 use Rattle.cut_ledger.proofs.CellLemmas.{cell_is, piece_facts}
 use Rattle.cut_shares.proofs.Counting.{in_block}
-use Rattle.cut_shares.proofs.Words.{IsPlan, IsTrue, Piece, Share, Values, is_in, is_in_share, is_piece}
+use Rattle.cut_shares.proofs.Words.{IsPlan, IsTrue, Piece, Share, Values, is_in_share, is_piece}
 
 -- a part of a piece is one
 pub part_is_piece : (v : Values) (p q : Piece) → IsPlan v → IsTrue (is_piece v p) → 1 ≤ q.count → p.first ≤ q.first
@@ -17,7 +16,3 @@ pub alike_in_block : (s : Share) (v : Values) (p : Piece) (n t : ℕ) → IsPlan
     → is_in_share s v t ≡ is_in_share s v p.first
 alike_in_block s v p n t plan piece few near from below =
     grind (arith, piece_facts, in_block)
-
--- its trials are those that are in it
-pub in_trials : (p : Piece) (t : ℕ) → p.first ≤ t → t < p.first + p.count → is_in p t ≡ true
-in_trials p t from below = within_is p.first (p.first + p.count) t from below

@@ -22,9 +22,10 @@ once_in_range a (suc n) t =
     grind (arith, once_in_range (a + 1) n t)
 
 -- one number further on there are as many of each remainder
-turn : (n r b : ℕ) → count_by (λ k. k % suc n == r) (range_with_len (b + 1) (suc n))
-    ≡ count_by (λ k. k % suc n == r) (range_with_len b (suc n))
-turn n r b =
+turn : (n r b : ℕ) → count_by (λ k. k % n == r) (range_with_len (b + 1) n)
+    ≡ count_by (λ k. k % n == r) (range_with_len b n)
+turn zero r b = refl
+turn (suc n) r b =
     let has : ℕ → Bool = λ k. k % suc n == r in
     let rest : List ℕ = range_with_len (b + 1) n in
     let same : cond {A = ℕ} (has (b + suc n)) 1 0 ≡ cond {A = ℕ} (has b) 1 0 =
@@ -33,21 +34,17 @@ turn n r b =
     ∙ ap (count_by has) (range_with_len_more (b + 1) n (b + suc n) (omega arith))
     ∙ omega (arith, same, sum_by_push (λ k. cond (has k) 1 0) rest (b + suc n), count_first has b rest)
 
-turns : (n r b : ℕ) → r < suc n → count_by (λ k. k % suc n == r) (range_with_len b (suc n)) ≡ 1
+turns : (n r b : ℕ) → r < n → count_by (λ k. k % n == r) (range_with_len b n) ≡ 1
 turns n r zero low =
-    count_by_agree (λ k. k % suc n == r) (λ k. k == r) 0 (suc n)
-    (record { same = λ k from below. ap (λ m. m == r) (mod-eq_of_lt {n = k} {m = suc n} (omega arith)) })
-    ∙ once_in_range 0 (suc n) r ∙ grind (arith, nat_tests)
+    count_by_agree (λ k. k % n == r) (λ k. k == r) 0 n
+    (record { same = λ k from below. ap (λ m. m == r) (mod-eq_of_lt {n = k} {m = n} (omega arith)) })
+    ∙ once_in_range 0 n r ∙ grind (arith, nat_tests)
 turns n r (suc b) low =
     grind (arith, turn n r b, turns n r b low)
 
-by_count : (n : ℕ) (r b : ℕ) → r < n → count_by (λ k. k % n == r) (range_with_len b n) ≡ 1
-by_count zero r b low = absurd (omega arith)
-by_count (suc n) r b low = turns n r b low
-
 pub take_turns : (s : Share) (b : ℕ) → count_by (has_block s) (range_with_len b s.shares) ≡ 1
 take_turns s b =
-    grind (arith, by_count s.shares (s.index - 1) b)
+    grind (arith, turns s.shares (s.index - 1) b)
 
 -- ---- each trial is in one share
 

@@ -28,7 +28,7 @@ pub use Rattle.cut_shares.specs.join.Joined.{runs_of, runs_of_cell, slip_of_run,
 pub use Rattle.cut_shares.specs.join.Laws.{AreApart}
 pub use Rattle.cut_shares.specs.join.inside.Merging.{AreAscending, IsSmall, adjoins, with_next, with_slip}
 pub use Rattle.cut_shares.specs.share.Blocks.{AreNumbered, begins_block, block_of}
-pub use Rattle.cut_shares.specs.share.Running.{AreOfShare, CanRun, EndsShare, is_lacking}
+pub use Rattle.cut_shares.specs.share.Running.{AreOfShare, AreWhole, CanRun, EndsShare, is_lacking}
 pub use Rattle.cut_shares.specs.share.Share.{IsShareSlip, has_block, is_in_share, trials_of_share}
 pub use Rattle.cut_shares.specs.share.inside.Batches.{AreParted, AreWithin, EndsPieces, IsUpTo, IsWhole}
 pub use Rattle.cut_shares.specs.share.inside.Pieces.{IsSharePiece, own_times, own_trials, trials_in_all}

@@ -1,5 +1,4 @@
-use Rattle.std.proofs.Common.{◌≡◌, ◌∙◌, ◌<◌, ℕ, suc, List, [], ◌∷◌, length, get_or, refl, ap, arith}
-use Rattle.cut_outcome.specs.declared.piece.Piece.{Piece}
+use Rattle.std.proofs.Common.{◌≡◌, ◌<◌, ℕ, suc, List, [], ◌∷◌, length, get_or, refl, arith}
 use Rattle.cut_shares.specs.declared.share.piece_task.PieceTask.{PieceTask}
 use Rattle.cut_shares.specs.share.inside.Tasks.{pieces_of}
 use Rattle.cut_shares.proofs.share.env.ShareEnv.run_all.Goals as goal
@@ -12,9 +11,9 @@ same_pieces [] [] long same = refl
 same_pieces [] (y ∷ ys) long same = absurd (omega (arith, long))
 same_pieces (x ∷ xs) [] long same = absurd (omega (arith, long))
 same_pieces (x ∷ xs) (y ∷ ys) long same =
-    ap (λ (p : Piece). p ∷ pieces_of ys) (same 0 x (omega arith))
-    ∙ ap (λ (ps : List Piece). x.piece ∷ ps)
-    (same_pieces xs ys (omega (arith, long)) (λ i d low. same (suc i) d (omega arith)))
+    let rest = same_pieces xs ys (omega (arith, long)) (λ i d low. same (suc i) d (omega arith)) in
+    let first : y.piece ≡ x.piece = same 0 x (omega arith) in
+    cc
 
 pub returns-clause-pieces : goal.returns-clause-pieces
 returns-clause-pieces g c =

@@ -1,6 +1,6 @@
-use Rattle.std.proofs.Common.{◌≡◌, ◌∙◌, List, ◌∷◌, ◌+◌, ◌-◌, ◌^◌, ℕ, min, ap, arith}
+use Rattle.std.proofs.Common.{◌≡◌, ◌∙◌, List, ◌∷◌, ◌+◌, arith}
 use Rattle.cut_shares.proofs.Dealing.{of_same}
-use Rattle.cut_shares.proofs.LeftTrials.{counted_more, none_left, one_taken}
+use Rattle.cut_shares.proofs.LeftTrials.{none_left, one_taken}
 use Rattle.cut_shares.proofs.Words.{Piece, own_trials}
 use Rattle.cut_shares.proofs.share.share_pieces.SharePieces.trials_left.Goals as goal
 
@@ -13,13 +13,16 @@ loop-piece-preserved c =
     let new : List Piece = c.next.new.self.rest ∷ c.next.new.self.later.now in
     let taken = of_same (λ s v. c.in-Some.piece.count + own_trials s v new ≡ own_trials s v old) is.share is.plan
     (one_taken left.share left.plan.now c.in-Some.piece old new step.own.piece step.taken) in
-    let counted = counted_more _ _ _ _ c.loop-piece.trials taken is.fewer is.counted in
     record {
       plan = step.plan ∙ is.plan;
       share = step.share ∙ is.share;
-      fewer = counted.0;
-      counted = c.saturating_add-trials.ensures
-          ∙ ap (λ (n : ℕ). min (c.loop-piece.trials + n) (2 ^ 64 - 1)) c.from.ensures ∙ counted.1;
+      fewer = (let few = is.fewer in omega (arith, taken, few));
+      counted =
+          (let sum = c.saturating_add-trials.ensures in
+          let count = c.from.ensures in
+          let few = is.fewer in
+          let before = is.counted in
+          omega (arith, sum, count, taken, few, before));
     }
 
 pub returns : goal.returns
