@@ -9,7 +9,6 @@ pub mod Appends
 pub mod Batches
 pub mod Endings
 pub mod LeftTrials
-pub mod SpanWalks
 pub mod Merges
 pub mod Steps
 pub mod Goods

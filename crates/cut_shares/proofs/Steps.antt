@@ -2,7 +2,7 @@
 use Rattle.std.proofs.Common.{◌≡◌, ◌∙◌, ℕ, zero, suc, ◌+◌, ◌-◌, ◌*◌, ◌<◌, ◌≤◌, inl, inr, Bool, true, false, List, []}
 use Rattle.std.proofs.Common.{◌∷◌, ◌++◌, map, filter, length, cond, refl, sym, ap, arith, append-nil}
 use Rattle.std.proofs.Math.Nat.{mul-le-mul_right}
-use Rattle.std.proofs.lemmas.Bool.{cases_lt, le-ltb, lt-ltb}
+use Rattle.std.proofs.lemmas.Bool.{cases_Bool, cases_lt, le-ltb, lt-ltb}
 use Rattle.std.proofs.lemmas.Bool.Decides.{nat_tests}
 use Rattle.std.proofs.lemmas.List.{map-append}
 use Rattle.std.proofs.lemmas.List.Elements.{All-head, All-tail, filter-append}
@@ -10,14 +10,33 @@ use Rattle.std.proofs.lemmas.List.Folds.{list_any_none}
 use Rattle.std.proofs.lemmas.List.Sums.{sum_by-cons, sum_by_push}
 use Rattle.cut_lists.proofs.Counts.{filter-none}
 use Rattle.cut_lists.proofs.Maps.{map-map}
-use Rattle.cut_sets.proofs.SpanLemmas.{Gives}
+use Rattle.cut_lists.proofs.Ranges.{All-range_with_len}
+use Rattle.cut_sets.specs.ranges.Spans.{begins}
+use Rattle.cut_sets.proofs.SpanLemmas.{Gives, spans_last, spans_step}
 use Rattle.cut_ledger.proofs.AddLemmas.{in_base_more}
 use Rattle.cut_ledger.proofs.CellLemmas.{PieceFacts, cell_is}
 use Rattle.cut_shares.proofs.Merges.{with_first}
-use Rattle.cut_shares.proofs.SpanWalks.{span_whole, spans_none, walk}
 use Rattle.cut_shares.proofs.Words.{All, Piece, Slip, Span, Values, adjoins, cells_of, flat_map, is_in, is_in_base}
 use Rattle.cut_shares.proofs.Words.{joined, runs_of_cell, piece_at, range_with_len, slip_of_run, slip_sum, slips_of_run}
 use Rattle.cut_shares.proofs.Words.{span_between, spans, with_slip}
+
+-- ---- spans
+
+-- numbers that pass, up to where the others fail, are one span
+span_whole : (f : ℕ → Bool) (low last high : ℕ) → low ≤ last → last ≤ high → Gives f true low last
+    → Gives f false last high → spans f low (high - low) ≡ span_between low last
+span_whole f low last high le few passes fails = elim (cases_lt last high) [
+  | inl less ↦ spans_step f low last high high le less (omega arith) passes fails
+      ∙ ap (λ n. span_between low last ++ spans f high n) (let none : high - high ≡ 0 = omega arith in none)
+      ∙ append-nil (span_between low last)
+  | inr all ↦ spans_last f low (high - low) (λ t from to. passes t from (omega arith))
+      ∙ ap (span_between low) (let end : low + (high - low) ≡ last = omega arith in end)
+]
+
+spans_none : (f : ℕ → Bool) (low n : ℕ) → Gives f false low (low + n) → spans f low n ≡ []
+spans_none f low n fails =
+    rw (filter-none (begins f low) (range_with_len low n) (All-range_with_len (λ t. begins f low t ≡ false) low n
+    (λ t from to. grind (arith, fails t from to))))
 
 -- ---- one slip more
 
@@ -86,70 +105,86 @@ module _ (v : Values) (ss : List Slip) (x : Slip) (c : ℕ) (comes : ComesAfter 
       ∙ ap (λ xs. xs ++ filter (λ s. is_in p s.piece.first) (x ∷ [])) same
       ∙ ap (λ b. slips_of_run ss q ++ cond b (x ∷ []) []) here
 
-  -- ---- the spans of a cell, before other runs
+  -- ---- the spans of one cell
 
-  -- what is shown of the spans of a cell, without the slip and with it, before the runs of the cells after it
-  abbrev Steps : List Slip → List Slip → List Span → List Span → Type 0
-  Steps before after xs ys = made more ys ++ after ≡ with_slip v (made ss xs ++ before) x
+  -- of cell number d, if the joined slips of the cells after it are these, without the slip and with it
+  module _ (d : ℕ) (before after : List Slip) where
+    abbrev high : ℕ
+    high = d * v.repeats + v.repeats
 
-  -- a span that ends before it, and does not go on into it
-  skipped : (before after : List Slip) (low last : ℕ) (xs ys : List Span) → last ≤ x.piece.first
-      → (low < last → adjoins v (record { first = low; count = last - low }) x.piece ≡ false)
-      → Steps before after xs ys → Steps before after (span_between low last ++ xs) (span_between low last ++ ys)
-  skipped before after low last xs ys le apart steps = elim (cases_lt low last) [
-    | inl less ↦
-        (let p : Piece = record { first = low; count = last - low } in
-        rw (lt-ltb low last less) (ap (λ j. j ∷ (made more ys ++ after)) (earlier_run p (omega arith))
-        ∙ ap (λ js. slip_of_run ss p ∷ js) steps
-        ∙ sym (with_first v (slip_of_run ss p) x (made ss xs ++ before) (apart less))))
-    | inr most ↦ rw (le-ltb low last most) steps
-  ]
+    -- what is shown of its spans, without the slip and with it, and of those from a number on
+    abbrev Steps : List Span → List Span → Type 0
+    Steps xs ys = made more ys ++ after ≡ with_slip v (made ss xs ++ before) x
 
-  -- a cell, if the spans from the last number before `top` on that fails are so
-  one_cell : (d top : ℕ) (before after : List Slip) → d * v.repeats ≤ top → top ≤ d * v.repeats + v.repeats
-      → top ≤ x.piece.first
-      → ((low : ℕ) → d * v.repeats ≤ low → low ≤ top → Gives (is_in_base ss) true low top → Steps before after
-      (spans (is_in_base ss) low (d * v.repeats + v.repeats - low))
-      (spans (is_in_base more) low (d * v.repeats + v.repeats - low)))
-      → cell v more d ++ after ≡ with_slip v (cell v ss d ++ before) x
-  one_cell d top before after starts ends first last =
-      let r : ℕ = v.repeats in
-      let all = walk (is_in_base ss) (is_in_base more) (d * r) (d * r + r) top (Steps before after) ends
-      (λ t low. same_before t (omega arith)) last
-      (λ low end xs ys from le less steps. skipped before after low end xs ys (omega arith) (λ _. grind arith) steps)
-      (top - d * r) (d * r) (d * r) (omega arith) (omega arith) (omega arith) (λ t a b. absurd (omega arith)) in
-      rw (let w : d * r + r - d * r ≡ r = omega arith in w) at all
+    abbrev StepsFrom : ℕ → Type 0
+    StepsFrom low = Steps (spans (is_in_base ss) low (high - low)) (spans (is_in_base more) low (high - low))
 
-  cell_before : (d : ℕ) (before after : List Slip) → d < c → after ≡ with_slip v before x
-      → cell v more d ++ after ≡ with_slip v (cell v ss d ++ before) x
-  cell_before d before after less is =
-      let high : ℕ = d * v.repeats + v.repeats in
-      let starts = comes.facts.starts in
-      let later : suc d * v.repeats ≤ c * v.repeats = mul-le-mul_right v.repeats less in
-      one_cell d high before after (omega arith) (omega arith) (omega arith) (λ low from to passes.
-      rw (
-        span_whole (is_in_base ss) low high high to (omega arith) passes (λ t a b. absurd (omega arith)),
-        span_whole (is_in_base more) low high high to (omega arith)
-            (λ t a b. same_before t (omega arith) ∙ passes t a b) (λ t a b. absurd (omega arith)),
-        ← append-nil (span_between low high),
-      ) (skipped before after low high [] [] (omega arith) (λ inside. grind (arith, cell_is)) is))
+    -- a span that ends before it, and does not go on into it
+    skipped : (low last : ℕ) (xs ys : List Span) → last ≤ x.piece.first
+        → (low < last → adjoins v (record { first = low; count = last - low }) x.piece ≡ false)
+        → Steps xs ys → Steps (span_between low last ++ xs) (span_between low last ++ ys)
+    skipped low last xs ys le apart steps = elim (cases_lt low last) [
+      | inl less ↦
+          (let p : Piece = record { first = low; count = last - low } in
+          rw (lt-ltb low last less) (ap (λ j. j ∷ (made more ys ++ after)) (earlier_run p (omega arith))
+          ∙ ap (λ js. slip_of_run ss p ∷ js) steps
+          ∙ sym (with_first v (slip_of_run ss p) x (made ss xs ++ before) (apart less))))
+      | inr most ↦ rw (le-ltb low last most) steps
+    ]
+
+    -- it is shown of the cell, if it is from where all numbers up to `top` pass
+    module _ (top : ℕ) (ends : top ≤ high) (first : top ≤ x.piece.first)
+        (last : (low : ℕ) → d * v.repeats ≤ low → low ≤ top → Gives (is_in_base ss) true low top → StepsFrom low) where
+      walk : (k low mid : ℕ) → d * v.repeats ≤ low → low ≤ mid → mid + k ≡ top → Gives (is_in_base ss) true low mid
+          → StepsFrom low
+      walk zero low mid from le at passes = last low from (omega arith) (λ t a b. passes t a (omega arith))
+      walk (suc k) low mid from le at passes = elim (cases_Bool (is_in_base ss mid)) [
+        | inl here ↦ walk k low (mid + 1) from (omega arith) (omega arith) (λ t a b. grind (arith, passes t a))
+        | inr out ↦
+            (let fails : Gives (is_in_base ss) false mid (mid + 1) = λ t a b. grind arith in
+            rw (
+              spans_step (is_in_base ss) low mid (mid + 1) high le (omega arith) (omega arith) passes fails,
+              spans_step (is_in_base more) low mid (mid + 1) high le (omega arith) (omega arith)
+                  (λ t a b. same_before t (omega arith) ∙ passes t a b)
+                  (λ t a b. same_before t (omega arith) ∙ fails t a b),
+            ) (skipped low mid _ _ (omega arith) (λ _. grind arith) (walk k (mid + 1) (mid + 1) (omega arith)
+            (omega arith) (omega arith) (λ t a b. absurd (omega arith)))))
+      ]
+
+      one_cell : d * v.repeats ≤ top → cell v more d ++ after ≡ with_slip v (cell v ss d ++ before) x
+      one_cell starts =
+          let all = walk (top - d * v.repeats) (d * v.repeats) (d * v.repeats) (omega arith) (omega arith)
+          (omega arith) (λ t a b. absurd (omega arith)) in
+          rw (let w : high - d * v.repeats ≡ v.repeats = omega arith in w) at all
+
+    cell_before : d < c → after ≡ with_slip v before x → cell v more d ++ after ≡ with_slip v (cell v ss d ++ before) x
+    cell_before less is =
+        let starts = comes.facts.starts in
+        let later : suc d * v.repeats ≤ c * v.repeats = mul-le-mul_right v.repeats less in
+        one_cell high (omega arith) (omega arith) (λ low from to passes.
+        rw (
+          span_whole (is_in_base ss) low high high to (omega arith) passes (λ t a b. absurd (omega arith)),
+          span_whole (is_in_base more) low high high to (omega arith)
+              (λ t a b. same_before t (omega arith) ∙ passes t a b) (λ t a b. absurd (omega arith)),
+          ← append-nil (span_between low high),
+        ) (skipped low high [] [] (omega arith) (λ inside. grind (arith, cell_is)) is)) (omega arith)
 
   -- its own cell
   cell_own : cell v more c ++ [] ≡ with_slip v (cell v ss c ++ []) x
   cell_own =
       let a : ℕ = x.piece.first in
       let b : ℕ = x.piece.first + x.piece.count in
-      let high : ℕ = c * v.repeats + v.repeats in
+      let end : ℕ = c * v.repeats + v.repeats in
       let some = comes.facts.some in
       let ends = comes.facts.ends in
-      one_cell c a [] [] comes.facts.starts (omega arith) (omega arith) (λ low from to passes.
+      one_cell c [] [] a (omega arith) (omega arith) (λ low from to passes.
       (let before : Piece = record { first = low; count = a - low } in
       let run : Piece = record { first = low; count = b - low } in
       let sums : slip_sum (slips_of_run more run) ≡ slip_sum (slips_of_run ss before ++ x ∷ []) =
       ap slip_sum (own_slips low to) in
       rw (
-        span_whole (is_in_base ss) low a high to (omega arith) passes (λ t le _. none_from t le),
-        span_whole (is_in_base more) low b high (omega arith) ends (λ t le less. grind (arith, same_before, own_trials))
+        span_whole (is_in_base ss) low a end to (omega arith) passes (λ t le _. none_from t le),
+        span_whole (is_in_base more) low b end (omega arith) ends (λ t le less. grind (arith, same_before, own_trials))
             (λ t le _. none_after t le),
         lt-ltb low b (omega arith),
       ) (elim (cases_lt low a) [
@@ -160,7 +195,7 @@ module _ (v : Values) (ss : List Slip) (x : Slip) (c : ℕ) (comes : ComesAfter 
             (let none : slips_of_run ss before ≡ [] = filter-none (λ s. is_in before s.piece.first) ss
             (λ k d within. grind (arith, nat_tests, comes.earlier k d within)) in
             rw (le-ltb low a most) (grind (arith, sums, none, sum_by-cons)))
-      ])))
+      ]))) comes.facts.starts
 
 -- from a number on that no slip has, cells have no runs
 cells_after : (v : Values) (ss : List Slip) (d m : ℕ) → ((t : ℕ) → d * v.repeats ≤ t → is_in_base ss t ≡ false)

@@ -6,9 +6,6 @@ use Rattle.cut_shares.proofs.Steps.{none_joined}
 use Rattle.cut_shares.proofs.Words.{IsSmall, Slip, with_slip}
 use Rattle.cut_shares.proofs.join.joined.merged.Goals as goal
 
-pub add-requires-clause-others : goal.add-requires-clause-others
-add-requires-clause-others c = c.loop-slip.invariant.small
-
 pub loop-slip-init : goal.loop-slip-init
 loop-slip-init c = grind (arith, none_joined)
 

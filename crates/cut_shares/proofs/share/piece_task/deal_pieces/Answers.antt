@@ -1,4 +1,3 @@
-use Rattle.std.proofs.lemmas.Grind.{common_steps}
 use Rattle.std.proofs.Common.{◌≡◌, ◌∙◌, ◌+◌, List, ◌∷◌, None, take, arith}
 use Rattle.std.proofs.lemmas.List.Elements.{All-push}
 use Rattle.cut_ledger.proofs.Law.{times_push}
@@ -19,10 +18,6 @@ pub returns-in_default-clause-none : goal.returns-in_default-clause-none
 returns-in_default-clause-none c = λ _ t.
     of_same (λ s v. own_times s v (c.next.new.self.rest ∷ c.next.new.self.later.now) t ≡ 0)
     c.loop-count.invariant.share c.loop-count.invariant.plan (c.in_default.ensures.empty t)
-
-pub returns-in_default-clause-fewer : goal.returns-in_default-clause-fewer
-returns-in_default-clause-fewer c =
-    grind arith
 
 pub loop-count-preserved : goal.loop-count-preserved
 loop-count-preserved c =
@@ -50,7 +45,3 @@ loop-count-preserved c =
       ));
       fewer = (let few = step.fewer in let before = held.fewer in omega (arith, few, before));
     }
-
-pub returns-clause-own : goal.returns-clause-own
-returns-clause-own c =
-    grind (arith, common_steps)
