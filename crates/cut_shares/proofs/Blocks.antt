@@ -7,11 +7,8 @@ use Rattle.cut_shares.proofs.Words.{AreNumbered, Values, begins_block, block_of,
 
 -- ---- quotients of one number and the next
 
-record NextQuotient (o p : ℕ) : Type 0 where
-  quotient : (o + 1) / p ≡ o / p + one_if ((o + 1) % p == 0)
-  ceiling : div_ceil (o + 1) p ≡ o / p + 1
-
-next_quotient : (o p : ℕ) → 1 ≤ p → NextQuotient o p
+next_quotient : (o p : ℕ) → 1 ≤ p
+    → ((o + 1) / p ≡ o / p + one_if ((o + 1) % p == 0)) × (div_ceil (o + 1) p ≡ o / p + 1)
 next_quotient o p some =
     grind arith
 
@@ -31,13 +28,13 @@ next_block size v t some repeats =
       | inl inside ↦
           (let cell : (t + 1) / r ≡ c = cell_is r c (t + 1) (omega arith) (omega arith) in
           let at : (t + 1) % r ≡ o + 1 = (let sum = rw cell at parts in omega (arith, sum, whole)) in
-          rw (cell, at) (omega (arith, next.quotient)))
+          rw (cell, at) (omega (arith, next.0)))
       | inr past ↦
           (let last : r ≡ o + 1 = omega arith in
           let cell : (t + 1) / r ≡ c + 1 = cell_is r (c + 1) (t + 1) (omega arith) (omega arith) in
           let at : (t + 1) % r ≡ 0 = (let sum = rw cell at parts in omega (arith, sum, whole)) in
           let ceiling : div_ceil r size ≡ o / size + 1 =
-          ap (λ n. div_ceil n size) last ∙ next.ceiling in
+          ap (λ n. div_ceil n size) last ∙ next.1 in
           rw (cell, at) (grind (arith, ceiling)))
     ]
 

@@ -4,7 +4,6 @@ pub mod Turns
 pub mod Counting
 pub mod PieceFacts
 pub mod Remaining
-pub mod Dealing
 pub mod Appends
 pub mod Batches
 pub mod Endings

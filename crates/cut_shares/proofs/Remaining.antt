@@ -1,5 +1,5 @@
 -- What is left of the pieces of a share.
-use Rattle.std.proofs.Common.{◌≡◌, ℕ, ◌+◌, true, false, [], ◌∷◌, arith}
+use Rattle.std.proofs.Common.{◌≡◌, ℕ, ◌+◌, true, false, [], ◌∷◌, subst, arith}
 use Rattle.cut_shares.proofs.Words.{Piece, Share, Values, is_in, is_in_share, one_if, own_times}
 
 -- a block of the share that is taken off, or one of another
@@ -18,3 +18,7 @@ pub block_skipped : (s now : Share) (v w : Values) (p q rest : Piece) (t : ℕ) 
     → own_times s v (rest ∷ []) t ≡ own_times s v (p ∷ []) t
 block_skipped s now v w p q rest t share plan alike not parts =
     grind arith
+
+-- what is said of a share and a plan, said of those that are the same
+pub of_same : (P : Share → Values → Type 0) {now s : Share} {w v : Values} → now ≡ s → w ≡ v → P now w → P s v
+of_same P {now} {s} {w} {v} share plan is = subst (λ (x : Share). P x v) share (subst (P now) plan is)

@@ -1,6 +1,6 @@
 -- Joined slips, once one comes after them.
 use Rattle.std.proofs.Common.{◌≡◌, ◌∙◌, ℕ, zero, suc, ◌+◌, ◌-◌, ◌*◌, ◌<◌, ◌≤◌, inl, inr, Bool, true, false, List, []}
-use Rattle.std.proofs.Common.{◌∷◌, ◌++◌, map, filter, length, cond, refl, sym, ap, arith, append-nil}
+use Rattle.std.proofs.Common.{◌∷◌, ◌++◌, map, filter, length, refl, sym, ap, arith, append-nil}
 use Rattle.std.proofs.Math.Nat.{mul-le-mul_right}
 use Rattle.std.proofs.lemmas.Bool.{cases_Bool, cases_lt, le-ltb, lt-ltb}
 use Rattle.std.proofs.lemmas.Bool.Decides.{nat_tests}
@@ -100,10 +100,7 @@ module _ (v : Values) (ss : List Slip) (x : Slip) (c : ℕ) (comes : ComesAfter 
       let same : slips_of_run ss p ≡ slips_of_run ss q =
       filter_same (λ s. is_in p s.piece.first) (λ s. is_in q s.piece.first) ss
       (λ k d within. grind (arith, nat_tests, comes.earlier k d within)) in
-      let here : is_in p x.piece.first ≡ true = grind (arith, nat_tests) in
-      filter-append (λ s. is_in p s.piece.first) ss (x ∷ [])
-      ∙ ap (λ xs. xs ++ filter (λ s. is_in p s.piece.first) (x ∷ [])) same
-      ∙ ap (λ b. slips_of_run ss q ++ cond b (x ∷ []) []) here
+      grind (arith, nat_tests, same, filter-append)
 
   -- ---- the spans of one cell
 

@@ -1,9 +1,18 @@
-use Rattle.std.proofs.Common.{◌≡◌, ◌∙◌, ◌+◌, List, ◌∷◌, None, take, arith}
+use Rattle.std.proofs.Common.{◌≡◌, ◌∙◌, ◌+◌, ◌<◌, ◌++◌, ℕ, List, [], ◌∷◌, Option, None, set, take, length, ap, arith}
+use Rattle.std.proofs.lemmas.List.{map-append, take_more_set}
 use Rattle.std.proofs.lemmas.List.Elements.{All-push}
 use Rattle.cut_ledger.proofs.Law.{times_push}
-use Rattle.cut_shares.proofs.Dealing.{dealt, of_same}
-use Rattle.cut_shares.proofs.Words.{IsSharePiece, Piece, is_in, one_if, own_times, pieces_of}
+use Rattle.cut_shares.proofs.Remaining.{of_same}
+use Rattle.cut_shares.proofs.Words.{Computed, IsSharePiece, Piece, PieceTask, is_in, one_if, own_times, pieces_of}
 use Rattle.cut_shares.proofs.share.piece_task.deal_pieces.Goals as goal
+
+-- a task that gets a piece
+dealt : (tasks : List PieceTask) (n : ℕ) (p : Piece) (result : Option Computed) → n < length tasks
+    → pieces_of (take (n + 1) (set tasks n (record { piece = p; result = result })))
+    ≡ pieces_of (take n tasks) ++ p ∷ []
+dealt tasks n p result low =
+    ap pieces_of (take_more_set tasks n (record { piece = p; result = result }) low)
+    ∙ map-append (λ (x : PieceTask). x.piece) (take n tasks) (record { piece = p; result = result } ∷ [])
 
 pub returns-in_default-clause-taken : goal.returns-in_default-clause-taken
 returns-in_default-clause-taken c = λ t.
