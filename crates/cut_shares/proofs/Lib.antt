@@ -3,7 +3,6 @@ pub mod Blocks
 pub mod Turns
 pub mod Counting
 pub mod PieceFacts
-pub mod Remaining
 pub mod Appends
 pub mod Batches
 pub mod Endings
@@ -12,4 +11,3 @@ pub mod Merges
 pub mod Steps
 pub mod Goods
 pub mod LawsOfJoins
-pub mod Joins

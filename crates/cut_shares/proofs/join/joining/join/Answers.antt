@@ -1,8 +1,25 @@
-use Rattle.std.proofs.Common.{rules, ◌≡◌, ◌∙◌, [], None, refl, ap, length, vec_len}
+use Rattle.std.proofs.Common.{rules, ◌≡◌, ◌∙◌, List, [], Err, None, refl, ap, arith, length, vec_len}
+use Rattle.std.specs.Bool.{⊤}
 use Rattle.std.proofs.lemmas.Result.{err_from_is_err_and}
+use Rattle.cut_plan.specs.Failing.{version_of}
+use Rattle.cut_journal.specs.declared.store_fault.StoreFault.TheVariants.{Memory, OtherPlan}
+use Rattle.cut_journal.specs.File.{HoldsAllTotals}
 use Rattle.cut_journal.proofs.Adding.{none_added}
-use Rattle.cut_shares.proofs.Joins.{good_hold, joins_all, joins_err}
+use Rattle.cut_shares.specs.join.Joining.{EndsJoin}
+use Rattle.cut_shares.proofs.Words.{All, AreGood, DiskLog, EndsAdding, JournalValue, Slip, StoreFault, Values, joined}
 use Rattle.cut_shares.proofs.join.joining.join.Goals as goal
+
+good_hold : (v w : Values) (slips : List Slip) → w ≡ v → AreGood v slips
+    → All (λ (s : Slip). HoldsAllTotals (version_of w.failing) s.totals) slips
+good_hold v w slips same good k d low =
+    grind arith
+
+-- how a join ends where the adding of the joined slips does
+joins_err : {D : Type 0} (log : D → DiskLog) (e : StoreFault) (v : Values) (ss : List Slip) (old new : JournalValue D)
+    → old.plan ≡ v → EndsAdding {T = ⊤} log (Err e) (joined v ss) old new → EndsJoin log (Err e) v ss old new
+joins_err log Memory v ss old new same (added, failed, is) = absurd is.1
+joins_err log OtherPlan v ss old new same (added, failed, is) = absurd is.1
+joins_err log e v ss old new same (added, failed, is) = (added, failed, (is.0, (same, is.1)))
 
 pub returns-in_err-joined : goal.returns-in_err-joined
 returns-in_err-joined g c =
@@ -23,14 +40,15 @@ add_all-requires g c =
 
 pub returns-in_err-add_all : goal.returns-in_err-add_all
 returns-in_err-add_all g c =
-    joins_err g.D.Disk.log c.args.accepted.now.plan c.args.accepted.now.slips c.args.journal.now c.add_all.new.self
-    (search rules) c.from_residual-in_err-add_all.result c.in_err-add_all.field-0.0
-    c.from_residual-in_err-add_all.ensures.1
-    (rw (c.deref.ensures.value, c.in_ok-joined.ensures.joined) at c.in_err-add_all.ensures)
+    let p = err_from_is_err_and c.from_residual-in_err-add_all.result c.from_residual-in_err-add_all.ensures.1 in
+    rw (p.1, p.2)
+    (joins_err g.D.Disk.log c.in_err-add_all.field-0.0 c.args.accepted.now.plan c.args.accepted.now.slips
+    c.args.journal.now c.add_all.new.self (search rules)
+    (rw (c.deref.ensures.value, c.in_ok-joined.ensures.joined) at c.in_err-add_all.ensures))
 
 pub returns : goal.returns
 returns g c =
     let long : vec_len c.in_ok-joined.joined ≡ length c.in_ok-joined.joined.items = search rules in
-    joins_all g.D.Disk.log c.args.accepted.now.plan c.args.accepted.now.slips c.args.journal.now c.add_all.new.self
-    (search rules) c.len.result (c.len.ensures ∙ long ∙ ap length c.in_ok-joined.ensures.joined)
-    (rw (c.deref.ensures.value, c.in_ok-joined.ensures.joined) at c.in_ok-add_all.ensures)
+    let ends = rw (c.deref.ensures.value, c.in_ok-joined.ensures.joined) at c.in_ok-add_all.ensures in
+    let count = c.len.ensures ∙ long ∙ ap length c.in_ok-joined.ensures.joined in
+    (ends.0, ends.1, (ends.2.0, (search rules, ends.2.1, count)))

@@ -2,7 +2,7 @@ use Rattle.std.proofs.Common.{◌≡◌, ◌∙◌, ◌+◌, ℕ, List, ◌∷�
 use Rattle.std.proofs.lemmas.Result.{err_from_is_err_and}
 use Rattle.cut_journal.proofs.Adding.{none_added}
 use Rattle.cut_shares.proofs.Batches.{batch_more, batch_stops, none_yet, up_to_end}
-use Rattle.cut_shares.proofs.Remaining.{of_same}
+use Rattle.cut_shares.proofs.PieceFacts.{of_same}
 use Rattle.cut_shares.proofs.Words.{Piece, own_times, pieces_of, times_in}
 use Rattle.cut_shares.proofs.share.batch.run_pieces.Goals as goal
 

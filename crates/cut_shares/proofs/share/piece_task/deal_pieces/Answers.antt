@@ -2,7 +2,7 @@ use Rattle.std.proofs.Common.{◌≡◌, ◌∙◌, ◌+◌, ◌<◌, ◌++◌, 
 use Rattle.std.proofs.lemmas.List.{map-append, take_more_set}
 use Rattle.std.proofs.lemmas.List.Elements.{All-push}
 use Rattle.cut_ledger.proofs.Law.{times_push}
-use Rattle.cut_shares.proofs.Remaining.{of_same}
+use Rattle.cut_shares.proofs.PieceFacts.{of_same}
 use Rattle.cut_shares.proofs.Words.{Computed, IsSharePiece, Piece, PieceTask, is_in, one_if, own_times, pieces_of}
 use Rattle.cut_shares.proofs.share.piece_task.deal_pieces.Goals as goal
 

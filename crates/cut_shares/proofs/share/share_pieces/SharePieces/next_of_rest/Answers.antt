@@ -1,5 +1,5 @@
 use Rattle.std.proofs.Common.{arith}
-use Rattle.cut_shares.proofs.Remaining.{block_skipped, block_taken}
+use Rattle.cut_shares.proofs.PieceFacts.{block_skipped, block_taken}
 use Rattle.cut_shares.proofs.share.share_pieces.SharePieces.next_of_rest.Goals as goal
 
 pub returns-then-has-clause-taken : goal.returns-then-has-clause-taken

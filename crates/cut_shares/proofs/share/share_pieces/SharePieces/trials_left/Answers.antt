@@ -1,5 +1,5 @@
 use Rattle.std.proofs.Common.{◌≡◌, ◌∙◌, List, ◌∷◌, ◌+◌, arith}
-use Rattle.cut_shares.proofs.Remaining.{of_same}
+use Rattle.cut_shares.proofs.PieceFacts.{of_same}
 use Rattle.cut_shares.proofs.LeftTrials.{none_left, one_taken}
 use Rattle.cut_shares.proofs.Words.{Piece, own_trials}
 use Rattle.cut_shares.proofs.share.share_pieces.SharePieces.trials_left.Goals as goal

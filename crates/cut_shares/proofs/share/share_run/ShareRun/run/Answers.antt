@@ -1,6 +1,6 @@
 use Rattle.std.proofs.Common.{◌≡◌, ◌∙◌, ◌∷◌, List, true, false, Ok, Err, refl, sym}
 use Rattle.cut_journal.specs.declared.store_fault.StoreFault.TheVariants.{Memory}
-use Rattle.cut_shares.proofs.Remaining.{of_same}
+use Rattle.cut_shares.proofs.PieceFacts.{of_same}
 use Rattle.cut_shares.proofs.Endings.{begun_over, ends_err, ends_other, ends_short, ends_unbegun, ends_whole}
 use Rattle.cut_shares.proofs.Words.{EndsPieces, Piece}
 use Rattle.cut_shares.proofs.share.share_run.ShareRun.run.Goals as goal
