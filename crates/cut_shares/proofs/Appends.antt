@@ -15,6 +15,7 @@ pub pieces_back : (v : Values) (ps : List Piece) → pieces_of_slips (slips_at v
 pieces_back v [] = refl
 pieces_back v (p ∷ ps) = ap (λ (l : List Piece). p ∷ l) (pieces_back v ps)
 
+-- the slips of pieces of the share are its slips
 pub share_slips : (s : Share) (v : Values) (ps : List Piece) → All (IsSharePiece s v) ps
     → All (IsShareSlip s v) (slips_at v ps)
 share_slips s v ps own = All-map (IsShareSlip s v) (slip_at v) ps (λ k d low.
@@ -32,6 +33,7 @@ share_slips s v ps own = All-map (IsShareSlip s v) (slip_at v) ps (λ k d low.
 abbrev pub slips_of : Values → List PieceTask → List Slip
 slips_of v tasks = slips_at v (done_of tasks)
 
+-- a result is that of its task, and the only slip of it
 pub done_one : (v : Values) (task : PieceTask) (r : Computed) → task.result ≡ Some r → IsRun v task
     → (r ≡ record { plan = v; piece = task.piece }) × (slips_of v (task ∷ []) ≡ slip_of r ∷ [])
 done_one v task r some run =

@@ -19,6 +19,7 @@ use Rattle.cut_shares.proofs.Words.{pieces_of_slips, slip_at, slips_at, times_in
 
 -- ---- the pieces of tasks, with and without a result
 
+-- a trial is in the pieces with a result and in the lost ones as often as in all of them
 times_parted : (tasks : List PieceTask) (t : ℕ)
     → times_in (done_of tasks) t + times_in (lost_of tasks) t ≡ times_in (pieces_of tasks) t
 times_parted tasks t =
@@ -27,12 +28,14 @@ times_parted tasks t =
     rw (times (filter has_result tasks), times (filter (λ x. not (has_result x)) tasks), times tasks)
     (sum_by-filter_both has_result (λ x. not (has_result x)) (λ x. refl) (λ x. cond (is_in x.piece t) 1 0) tasks)
 
+-- pieces of the share are so where only some tasks are left
 own_filtered : (s : Share) (v : Values) (p : PieceTask → Bool) (tasks : List PieceTask)
     → All (IsSharePiece s v) (pieces_of tasks) → All (IsSharePiece s v) (pieces_of (filter p tasks))
 own_filtered s v p [] own = own
 own_filtered s v p (task ∷ tasks) own =
     grind (arith, All-head, own_filtered s v p tasks (All-tail (IsSharePiece s v) task.piece (pieces_of tasks) own))
 
+-- all tasks have a result where no piece is lost
 all_done : (tasks : List PieceTask) → list_all has_result tasks ≡ (length (lost_of tasks) == 0)
 all_done [] = refl
 all_done (task ∷ tasks) = grind (arith, all_done tasks)
@@ -57,6 +60,7 @@ module _ (s : Share) (v : Values) (all : List Piece) where
     times = λ t. omega (arith, parted.times t, times t, times_parted tasks t, times-append);
   }
 
+  -- some trial is in pieces of the share
   pub some_time : (ps : List Piece) → All (IsSharePiece s v) ps → 1 ≤ length ps → (t : ℕ) × (1 ≤ times_in ps t)
   some_time [] own some = absurd (omega arith)
   some_time (p ∷ ps) own some =

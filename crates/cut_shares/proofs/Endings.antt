@@ -36,6 +36,7 @@ once_passing p a (suc n) t =
     let first = count_first (λ x. x == t) a (filter p (range_with_len (a + 1) n)) in
     grind (arith, nat_tests, once_passing p (a + 1) n t)
 
+-- a trial of the share counts as often as it is in the pieces, and another not at all
 own_is : (s : Share) (v : Values) (ps : List Piece) (t : ℕ)
     → own_times s v ps t ≡ cond (is_in_share s v t) (times_in ps t) 0
 own_is s v [] t = grind arith
@@ -58,6 +59,7 @@ pub record IsBegun {D : Type 0} (s : Share) (v : Values) (ss : List Slip) (all :
   pub can : CanRun v ss old
   pub lack : (t : ℕ) → own_times s v all t ≡ one_if (is_lacking s v ss t)
 
+-- of the gaps over good slips the share has what these slips lack
 pub begun_over : {D : Type 0} (s : Share) (v : Values) (ss : List Slip) (all gaps : List Piece) (log : JournalValue D)
     → GapsCover → AreGood v ss → log.plan ≡ v → gaps ≡ gaps_of (over_base v ss)
     → ((t : ℕ) → own_times s v all t ≡ own_times s v gaps t) → IsBegun s v ss all log
@@ -71,6 +73,7 @@ is_true true n some few = refl
 is_true false n some few = absurd (omega arith)
 
 module _ {D : Type 0} (log : D → DiskLog) (s : Share) (v : Values) (ss : List Slip) where
+  -- the slips of pieces of the share that have only trials that it lacks, each once at most
   of_share : (ps : List Piece) → All (IsSharePiece s v) ps
       → ((t : ℕ) → times_in ps t ≤ one_if (is_lacking s v ss t)) → AreOfShare s v ss (slips_at v ps)
   of_share ps own once = search (arith, share_slips, pieces_back)
@@ -82,6 +85,7 @@ module _ {D : Type 0} (log : D → DiskLog) (s : Share) (v : Values) (ss : List 
       grind (arith, list_any-count_by, count_by-map, list_any-append)
 
   module _ (all : List Piece) (old new : JournalValue D) (begun : IsBegun s v ss all old) where
+    -- all batches are worked off, and no piece is lost
     pub ends_whole : (n : ℕ) → n ≡ length (trials_of_share s v) → EndsPieces log (Ok true) s v all old new
         → EndsShare log (Ok n) s v ss old new
     ends_whole n count upto =
@@ -93,6 +97,7 @@ module _ {D : Type 0} (log : D → DiskLog) (s : Share) (v : Values) (ss : List 
         ap (λ l. times_in l t) (pieces_back v upto.done) ∙ times t in
         (slips_at v upto.done, None, (upto.kept, (count, begun.can, of, whole, refl)))
 
+    -- or some is lost
     pub ends_short : EndsPieces log (Ok false) s v all old new → EndsShare log (Err WorkMemory) s v ss old new
     ends_short upto =
         let at = some_time s v all upto.lost upto.parted.lost_own (upto.sufficed.some refl) in
@@ -107,6 +112,7 @@ module _ {D : Type 0} (log : D → DiskLog) (s : Share) (v : Values) (ss : List 
         let left = still_lacking upto.done t none lacks in
         (slips_at v upto.done, None, (upto.kept, (begun.can, of, (t, left), refl)))
 
+    -- or a fault ended them
     ends_fault : (e : StoreFault) → EndsPieces log (Err e) s v all old new → EndsShare log (Err e) s v ss old new
     ends_fault Broken ends =
         let t : ℕ = ends.2.0 in

@@ -23,6 +23,7 @@ use Rattle.cut_shares.proofs.Words.{All, AreAscending, AreGood, ArePossible, IsG
 use Rattle.cut_shares.proofs.Words.{IsPlan, IsSmall, IsTrue, Piece, Slip, Values, cell_at, is_in, is_in_base, is_piece}
 use Rattle.cut_shares.proofs.Words.{joined, each_number, pieces_of_slips, times_in, with_slip}
 
+-- what holds of all of a list holds of its first elements
 pub All-first : {X : Type 0} (P : X → Type 0) (xs ys : List X) → All P (xs ++ ys) → All P xs
 All-first P xs ys all k d low =
     rw (get_or_append_left xs ys d k low) at (all k d (omega (arith, low, length-append xs ys)))
@@ -48,6 +49,7 @@ good_apart : (v : Values) (ss : List Slip) (x : Slip) (t : ℕ) → IsGood v ss 
 good_apart v ss x t good here =
     grind (arith, none_passing (is_in_base ss) x.piece.first x.piece.count t good.apart)
 
+-- no trial is in two of the first n
 first_apart : (v : Values) (ss : List Slip) (n t : ℕ) → AreGood v ss → n ≤ length ss
     → times_in (pieces_of_slips (take n ss)) t ≤ 1
 first_apart v ss zero t good le = omega arith
@@ -99,6 +101,7 @@ ascend_of v ss are = record { pieces = λ k d low. (are.small k d low).piece; as
 abbrev InOrder : List Slip → Type 0
 InOrder ss = IsNonDecreasingBy (λ s. s.piece.first) ss
 
+-- a plan that has a piece has cells that are not empty
 some_repeats : (v : Values) (p : Piece) → IsTrue (is_piece v p) → 0 < v.repeats
 some_repeats v p piece = grind arith
 
@@ -153,6 +156,7 @@ comes_next v ss i d is within =
           })));
     }
 
+-- the joined slips, once the next one is among them
 pub joined_next : (v : Values) (ss : List Slip) (i : ℕ) (d : Slip) → Ascend v ss → i < length ss
     → joined v (take (i + 1) ss) ≡ with_slip v (joined v (take i ss)) (get_or ss i d)
 joined_next v ss i d is within =

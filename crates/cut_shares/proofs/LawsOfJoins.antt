@@ -109,6 +109,7 @@ module _ (v : Values) (ss : List Slip) (sound : AreSound v ss) where
 
 -- ---- they are good
 
+-- a piece with one that goes on where it ends
 next_piece : (v : Values) (s x : Slip) → Adjoin v s x → IsTrue (is_piece v s.piece)
     → IsTrue (is_piece v x.piece) → IsTrue (is_piece v (with_next s x).piece)
 next_piece v s x is one other = grind arith

@@ -33,6 +33,7 @@ span_whole f low last high le few passes fails = elim (cases_lt last high) [
       ∙ ap (span_between low) (let end : low + (high - low) ≡ last = omega arith in end)
 ]
 
+-- where nothing passes there are none
 spans_none : (f : ℕ → Bool) (low n : ℕ) → Gives f false low (low + n) → spans f low n ≡ []
 spans_none f low n fails =
     rw (filter-none (begins f low) (range_with_len low n) (All-range_with_len (λ t. begins f low t ≡ false) low n
@@ -40,6 +41,7 @@ spans_none f low n fails =
 
 -- ---- one slip more
 
+-- a slip that ends where another begins, or before that
 pub record Precedes (x s : Slip) : Type 0 where
   pub some : 0 < s.piece.count
   pub ends : s.piece.first + s.piece.count ≤ x.piece.first
@@ -70,6 +72,7 @@ module _ (v : Values) (ss : List Slip) (x : Slip) (c : ℕ) (comes : ComesAfter 
   abbrev more : List Slip
   more = ss ++ x ∷ []
 
+  -- the trials without the slip, and with it
   none_from : (t : ℕ) → x.piece.first ≤ t → is_in_base ss t ≡ false
   none_from t le =
       list_any_none (λ (s : Slip). is_in s.piece t) ss (λ k d low. grind (arith, nat_tests, comes.earlier k d low))
@@ -154,6 +157,7 @@ module _ (v : Values) (ss : List Slip) (x : Slip) (c : ℕ) (comes : ComesAfter 
           (omega arith) (λ t a b. absurd (omega arith)) in
           rw (let w : high - d * v.repeats ≡ v.repeats = omega arith in w) at all
 
+    -- a cell before its own
     cell_before : d < c → after ≡ with_slip v before x → cell v more d ++ after ≡ with_slip v (cell v ss d ++ before) x
     cell_before less is =
         let starts = comes.facts.starts in
