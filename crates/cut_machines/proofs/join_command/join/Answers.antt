@@ -5,7 +5,8 @@ use Rattle.cut_commands.specs.Run.{plan_place}
 use Rattle.cut_commands.specs.declared.fault.CliFault.{CliFault}
 use Rattle.cut_machines.specs.JoinCommand.{JoinFiles, NamesRefusedFile}
 use Rattle.cut_machines.proofs.JoinEnds.{can_be_shut, names_from, shut_again, still_open}
-use Rattle.cut_machines.proofs.JoinSourceLemmas.{paths_length, paths_of}
+use Rattle.std.proofs.lemmas.List.{length-map}
+use Rattle.cut_machines.proofs.JoinSourceLemmas.{paths_of}
 use Rattle.cut_machines.proofs.join_command.join.Goals as goal
 
 pub returns-in-Err-clause-ends : goal.returns-in-Err-clause-ends
@@ -62,6 +63,6 @@ returns-clause-names g c =
     let plan : Option Place = plan_place (g.F.Files.log c.open.new.self) c.args.paths.plan in
     let ended = c.join_onto-disk.result.ended in
     let refused = c.join_onto-disk.result.refused in
-    subst (λ (n : ℕ). NamesRefusedFile n ended refused) (paths_length c.args.paths.from.now)
+    subst (λ (n : ℕ). NamesRefusedFile n ended refused) (length-map c.args.paths.from.now _)
     (names_from plan files (g.W.Wire.log c.args.wire.now) (g.W.Wire.log c.join_onto-disk.new.wire) ended refused
     c.join_onto-disk.ensures.ends)
