@@ -1,12 +1,12 @@
-use Rattle.std.proofs.Common.{◌∙◌, ℕ, Err, Option, inl, inr, refl, ap, subst}
-use Rattle.cut_files.specs.Place.{Place, closed}
-use Rattle.cut_files.proofs.Everywhere.{stays_everywhere}
-use Rattle.cut_commands.specs.Run.{plan_place}
-use Rattle.cut_commands.specs.declared.fault.CliFault.{CliFault}
-use Rattle.cut_machines.specs.JoinCommand.{JoinFiles, NamesRefusedFile}
-use Rattle.cut_machines.proofs.JoinEnds.{can_be_shut, names_from, shut_again, still_open}
+use Rattle.std.proofs.Common.{◌∙◌, ℕ, Err, inl, inr, refl, sym, ap, subst}
 use Rattle.std.proofs.lemmas.List.{length-map}
-use Rattle.cut_machines.proofs.JoinSourceLemmas.{paths_of}
+use Rattle.cut_files.specs.Place.{IsOpen, closed}
+use Rattle.cut_files.proofs.Everywhere.{stays_everywhere}
+use Rattle.cut_files.proofs.Places.{opened_open}
+use Rattle.cut_commands.specs.declared.fault.CliFault.{CliFault}
+use Rattle.cut_commands.proofs.Sources.{closed_opened}
+use Rattle.cut_machines.specs.JoinCommand.{NamesRefusedFile}
+use Rattle.cut_machines.proofs.JoinEnds.{names_from, still_open}
 use Rattle.cut_machines.proofs.join_command.join.Goals as goal
 
 pub returns-in-Err-clause-ends : goal.returns-in-Err-clause-ends
@@ -25,9 +25,9 @@ returns-in-Err-clause-ends g c = inr (
 pub close-requires : goal.close-requires
 close-requires g c =
     let before = g.F.Files.log c.args.files.now c.args.paths.to.now in
-    can_be_shut before (g.F.Files.log c.join_onto-disk.new.files c.args.paths.to.now)
-    (still_open c.args.paths.to.now before (g.F.Files.log c.open.new.self) (g.F.Files.log c.join_onto-disk.new.files)
-    c.in-Ok.ensures.opened.1 c.join_onto-disk.ensures.stays)
+    subst IsOpen
+    (sym (still_open c.args.paths.to.now before (g.F.Files.log c.open.new.self) (g.F.Files.log c.join_onto-disk.new.files)
+    c.in-Ok.ensures.opened.1 c.join_onto-disk.ensures.stays)) (opened_open before)
 
 pub returns-clause-ends : goal.returns-clause-ends
 returns-clause-ends g c =
@@ -47,22 +47,11 @@ returns-clause-ends g c =
       shut = c.close.ensures.closed
           ∙ ap (closed back) (still_open c.args.paths.to.now before found left c.in-Ok.ensures.opened.1
           c.join_onto-disk.ensures.stays)
-          ∙ shut_again back before;
+          ∙ closed_opened back before;
       others = c.close.ensures.elsewhere;
     }
 
 pub returns-clause-names : goal.returns-clause-names
 returns-clause-names g c =
-    let files : JoinFiles = record {
-      old = paths_of c.args.paths.from.now;
-      found = g.F.Files.log c.open.new.self;
-      left = g.F.Files.log c.join_onto-disk.new.files;
-      disk = g.F.Disk.Disk.log c.in-Ok.disk;
-      back = g.F.Disk.Disk.log c.join_onto-disk.result.disk;
-    } in
-    let plan : Option Place = plan_place (g.F.Files.log c.open.new.self) c.args.paths.plan in
-    let ended = c.join_onto-disk.result.ended in
-    let refused = c.join_onto-disk.result.refused in
-    subst (λ (n : ℕ). NamesRefusedFile n ended refused) (length-map c.args.paths.from.now _)
-    (names_from plan files (g.W.Wire.log c.args.wire.now) (g.W.Wire.log c.join_onto-disk.new.wire) ended refused
-    c.join_onto-disk.ensures.ends)
+    subst (λ (n : ℕ). NamesRefusedFile n c.join_onto-disk.result.ended c.join_onto-disk.result.refused)
+    (length-map c.args.paths.from.now _) (names_from _ _ _ _ _ _ c.join_onto-disk.ensures.ends)
