@@ -1,11 +1,8 @@
 -- Files of the shares of one plan have no trial twice, and where all are there and complete they have each one.
 use Rattle.std.proofs.Common.{◌≡◌, ◌∙◌, ◌+◌, ◌%◌, ◌-◌, ◌<◌, ◌≤◌, ◌==◌, ◌&&◌, ℕ, Bool, true, false, List, []}
 use Rattle.std.proofs.Common.{◌∷◌, All, nat_lt, refl, sym, ap, subst, arith}
-use Rattle.std.proofs.lemmas.Bool.{lt-ltb}
 use Rattle.std.proofs.lemmas.Bool.Decides.{nat_tests}
-use Rattle.std.proofs.lemmas.List.{map-append}
 use Rattle.std.proofs.lemmas.List.Elements.{All-head, All-tail, recursion_from_All}
-use Rattle.std.proofs.lemmas.Nat.{mod_below}
 use Rattle.cut_lists.proofs.FlatMaps.{All-flat_map}
 use Rattle.cut_lists.proofs.Parts.{count_first}
 use Rattle.cut_plan.specs.Cells.{trial_count}
@@ -15,7 +12,7 @@ use Rattle.cut_outcome.specs.Outcome.{one_if}
 use Rattle.cut_ledger.specs.declared.slip.Slip.{Slip}
 use Rattle.cut_ledger.specs.Laws.{TrueSlipsAreGood}
 use Rattle.cut_ledger.specs.World.{AreTrue, IsTrueSlip, pieces_of_slips, times_in}
-use Rattle.cut_ledger.proofs.Law.{times-append, times_once}
+use Rattle.cut_ledger.proofs.Law.{times_once}
 use Rattle.cut_shares.specs.share.Blocks.{block_of}
 use Rattle.cut_shares.specs.share.Running.{AreWhole, is_lacking}
 use Rattle.cut_shares.specs.share.Share.{has_block}
@@ -23,6 +20,7 @@ use Rattle.cut_shares.specs.join.Joined.{joined}
 use Rattle.cut_shares.specs.join.Laws.{JoinedAreTrue, JoinedHaveTheTrials}
 use Rattle.cut_machines.specs.Laws.{AreComplete, AreFilesOfShares, FileOfShare, IsFileOfShare, Sharing}
 use Rattle.cut_machines.specs.Laws.{all_slips, files_of_share}
+use Rattle.cut_machines.proofs.ResumedShares.{both_times}
 
 -- the number of the share that has a trial's block
 abbrev turn_of : Sharing → Values → ℕ → ℕ
@@ -32,19 +30,6 @@ turn_of sharing v t = block_of sharing.block_size v t % sharing.shares + 1
 abbrev IsWhole : Values → FileOfShare → Type 0
 IsWhole v file = AreWhole file.share v [] file.slips
 
--- ---- tests
-
-both_pass : (x : Bool) → one_if (x && true) ≡ one_if x
-both_pass true = refl
-both_pass false = refl
-
-few_pass : (a x : Bool) → one_if ((a && x) && true) ≤ one_if x
-few_pass true x = omega (arith, both_pass x)
-few_pass false x = omega arith
-
-same_turn : (index left : ℕ) → 1 ≤ index → (left == index - 1) ≡ (index == left + 1)
-same_turn index left some = grind (arith, nat_tests, some)
-
 module _ (sharing : Sharing) (v : Values) where
   -- ---- one file
 
@@ -52,33 +37,20 @@ module _ (sharing : Sharing) (v : Values) where
   own_block : (file : FileOfShare) (t : ℕ) → IsFileOfShare sharing v file
       → has_block file.share (block_of file.share.block_size v t) ≡ (file.share.index == turn_of sharing v t)
   own_block file t is =
-      let bounds = file.share.bounds in
-      same_turn file.share.index (block_of file.share.block_size v t % file.share.shares) bounds.numbered
-      ∙ ap (λ n. file.share.index == block_of n v t % file.share.shares + 1) is.block_size
-      ∙ ap (λ n. file.share.index == block_of sharing.block_size v t % n + 1) is.shares
+      let numbered = file.share.bounds.numbered in
+      rw (sym is.block_size, sym is.shares) (grind (arith, nat_tests, numbered))
 
-  -- where no slip is there, a share lacks the trials of the plan whose turn is the share's
-  own_turn : (file : FileOfShare) (t : ℕ) → IsFileOfShare sharing v file → t < trial_count v
-      → one_if (is_lacking file.share v [] t) ≡ one_if (file.share.index == turn_of sharing v t)
-  own_turn file t is low =
-      ap (λ b. one_if ((b && has_block file.share (block_of file.share.block_size v t)) && true))
-      (lt-ltb t (trial_count v) low)
-      ∙ both_pass (has_block file.share (block_of file.share.block_size v t)) ∙ ap one_if (own_block file t is)
-
+  -- where no slip is there, a share lacks no trials but those of the plan whose turn is the share's
   at_most_own : (file : FileOfShare) (t : ℕ) → IsFileOfShare sharing v file
       → one_if (is_lacking file.share v [] t) ≤ one_if (file.share.index == turn_of sharing v t)
-  at_most_own file t is =
-      subst (λ b. one_if (is_lacking file.share v [] t) ≤ one_if b) (own_block file t is)
-      (few_pass (nat_lt t (trial_count v)) (has_block file.share (block_of file.share.block_size v t)))
+  at_most_own file t is = let own = own_block file t is in grind (arith, nat_tests, own)
+
+  -- and each of these
+  own_turn : (file : FileOfShare) (t : ℕ) → IsFileOfShare sharing v file → t < trial_count v
+      → one_if (is_lacking file.share v [] t) ≡ one_if (file.share.index == turn_of sharing v t)
+  own_turn file t is low = let own = own_block file t is in grind (arith, nat_tests, own)
 
   -- ---- all files
-
-  times_first : (file : FileOfShare) (files : List FileOfShare) (t : ℕ)
-      → times_in (pieces_of_slips (all_slips (file ∷ files))) t
-      ≡ times_in (pieces_of_slips file.slips) t + times_in (pieces_of_slips (all_slips files)) t
-  times_first file files t =
-      ap (λ ps. times_in ps t) (map-append (λ (s : Slip). s.piece) file.slips (all_slips files))
-      ∙ times-append (pieces_of_slips file.slips) (pieces_of_slips (all_slips files)) t
 
   -- a trial is in these files at most as often as the share whose turn it is has one
   few_times : (files : List FileOfShare) (t : ℕ) → All (IsFileOfShare sharing v) files
@@ -88,7 +60,7 @@ module _ (sharing : Sharing) (v : Values) where
       let is = All-head (IsFileOfShare sharing v) file files each in
       let once = is.slips.once t in
       let own = at_most_own file t is in
-      let sum = times_first file files t in
+      let sum = both_times file.slips (all_slips files) t in
       let count = count_first (λ (f : FileOfShare). f.share.index == turn_of sharing v t) file files in
       let rest = few_times files t (All-tail (IsFileOfShare sharing v) file files each) in
       omega (arith, once, own, sum, count, rest)
@@ -102,32 +74,26 @@ module _ (sharing : Sharing) (v : Values) where
       let is = All-head (IsFileOfShare sharing v) file files each in
       let once = All-head (IsWhole v) file files whole t in
       let own = own_turn file t is low in
-      let sum = times_first file files t in
+      let sum = both_times file.slips (all_slips files) t in
       let count = count_first (λ (f : FileOfShare). f.share.index == turn_of sharing v t) file files in
       let rest = all_times files t low (All-tail (IsFileOfShare sharing v) file files each)
       (All-tail (IsWhole v) file files whole) in
       omega (arith, once, own, sum, count, rest)
 
-  each_true : (files : List FileOfShare) → All (IsFileOfShare sharing v) files
-      → All (IsTrueSlip v) (all_slips files)
-  each_true files each = All-flat_map (IsTrueSlip v) (λ (file : FileOfShare). file.slips) files
-      (λ i d low k e less. let is = each i d low in (is.slips.each k e less).true)
-
   pub files_true : (files : List FileOfShare) → AreFilesOfShares sharing v files → AreTrue v (all_slips files)
   files_true files are = record {
-    each = recursion_from_All (IsTrueSlip v) (all_slips files) (each_true files are.each);
-    apart = λ t. (let few = few_times files t are.each in
-        let once = are.once (turn_of sharing v t) in omega (arith, few, once));
+    each = recursion_from_All (IsTrueSlip v) (all_slips files)
+        (All-flat_map (IsTrueSlip v) (λ (file : FileOfShare). file.slips) files
+        (λ i d low k e less. (let is = are.each i d low in (is.slips.each k e less).true)));
+    apart = λ t. omega (arith, few_times files t are.each, are.once (turn_of sharing v t));
   }
 
   one_time : (files : List FileOfShare) (t : ℕ) → t < trial_count v
       → AreFilesOfShares sharing v files → AreComplete sharing v files
       → times_in (pieces_of_slips (all_slips files)) t ≡ 1
   one_time files t low are whole =
-      let below : block_of sharing.block_size v t % sharing.shares < sharing.shares =
-      mod_below (block_of sharing.block_size v t) sharing.shares whole.some in
-      all_times files t low are.each whole.each
-      ∙ whole.all (turn_of sharing v t) (omega arith) (omega (arith, below))
+      let some = whole.some in
+      all_times files t low are.each whole.each ∙ whole.all (turn_of sharing v t) (omega arith) (omega arith)
 
   pub whole_times : JoinedAreTrue → TrueSlipsAreGood → JoinedHaveTheTrials → (files : List FileOfShare) → IsPlan v
       → AreFilesOfShares sharing v files → AreComplete sharing v files → (t : ℕ)

@@ -25,10 +25,9 @@ first_slips s v ss added n are = search (arith, All-take, first_times)
 
 -- ---- resumed slips
 
-both_times : (ss added : List Slip) (t : ℕ) → times_in (pieces_of_slips (ss ++ added)) t
+pub both_times : (ss added : List Slip) (t : ℕ) → times_in (pieces_of_slips (ss ++ added)) t
     ≡ times_in (pieces_of_slips ss) t + times_in (pieces_of_slips added) t
-both_times ss added t =
-    search (arith, map-append, times-append)
+both_times ss added t = search (arith, map-append, times-append)
 
 -- slips of a share have a trial once or not at all
 own_times : (s : Share) (v : Values) (ss : List Slip) (t : ℕ) → AreOfShare s v [] ss
@@ -38,8 +37,7 @@ own_times s v ss t are =
 
 lacking_parts : (s : Share) (v : Values) (ss : List Slip) (t : ℕ) → AreOfShare s v [] ss
     → times_in (pieces_of_slips ss) t + one_if (is_lacking s v ss t) ≡ one_if (is_lacking s v [] t)
-lacking_parts s v ss t are =
-    grind (arith, own_times s v ss t are)
+lacking_parts s v ss t are = grind (arith, own_times s v ss t are)
 
 pub resumed_slips : (s : Share) (v : Values) (ss added : List Slip) → AreOfShare s v [] ss → AreOfShare s v ss added
     → AreOfShare s v [] (ss ++ added)
@@ -47,5 +45,4 @@ resumed_slips s v ss added are more = search (arith, All-append, both_times, lac
 
 pub resumed_whole : (s : Share) (v : Values) (ss added : List Slip) → AreOfShare s v [] ss → AreWhole s v ss added
     → AreWhole s v [] (ss ++ added)
-resumed_whole s v ss added are whole t =
-    search (arith, both_times, lacking_parts)
+resumed_whole s v ss added are whole t = search (arith, both_times, lacking_parts)
