@@ -13,7 +13,7 @@ use Rattle.cut_journal.specs.Adding.{Adds, failures_after}
 use Rattle.cut_journal.specs.Journal.{IsFileOf, JournalValue, fault_counts}
 use Rattle.cut_journal.specs.Opening.{IsClaimed, IsNotClaimed, MayNotClaim}
 use Rattle.cut_shares.specs.join.Joined.{joined}
-use Rattle.cut_shares.specs.join.Joining.{EndsJoin, StopsJoining}
+use Rattle.cut_shares.specs.join.Joining.{EndsJoin}
 use Rattle.cut_commands.specs.declared.fault.CliFault.{CliFault}
 use Rattle.cut_commands.specs.declared.fault.CliFault.TheVariants.{Memory, Migrate}
 use Rattle.cut_commands.specs.Faults.{fault_of_journal, fault_of_store}
@@ -25,78 +25,57 @@ use Rattle.cut_machines.specs.inside.JoinTarget.{FillsJoined}
 
 -- ---- a join to a new journal
 
-not_some : IsSome {T = Slip} None → ⊥
-not_some some = cc some
-
 module _ {D : Type 0} (log : D → DiskLog) (v : Values) (ss : List Slip) (old new : JournalValue D)
-    (is : IsNewJournal v old) where
-  -- what was added are first ones of the joined slips
-  first_joined : (result : Result ℕ StoreFault) (added : List Slip) (failed : Option Slip)
-      → StopsJoining result v ss old added failed → AreFirst (joined v ss) added × GoesOn (joined v ss) added failed
-  first_joined (Ok n) added failed stops = first_added {T = ℕ} (Ok n) (joined v ss) old.doubtful added failed stops.1
-  first_joined (Err store.Memory) added failed stops =
-      ((joined v ss, ap (λ (xs : List Slip). xs ++ joined v ss) (sym stops.0)), none_next (joined v ss) added failed stops.1)
-  first_joined (Err store.OtherPlan) added failed stops = absurd (stops.0 is.plan)
-  first_joined (Err fault) added failed stops =
-      first_added {T = ℕ} (Err fault) (joined v ss) old.doubtful added failed stops.1
+    (is : IsNewJournal v old) (file : Knows (log new.disk) (IsFileOf new.plan new.count new.doubtful)) where
+  -- all were written
+  pub fills_all : (n : ℕ) → EndsJoin log (Ok n) v ss old new → FillsJoined (Ok n) v ss (log old.disk) (log new.disk)
+  fills_all n (added, failed, ends) = (
+    ends.1.2,
+    goes_all log v old new is file (joined v ss) (subst (λ (xs : List Slip). Adds log xs None old new) ends.1.1.0
+        (subst (λ (o : Option Slip). Adds log added o old new) ends.1.1.1 ends.0)),
+  )
 
-  module _ (file : Knows (log new.disk) (IsFileOf new.plan new.count new.doubtful)) where
-    -- all were
-    pub fills_all : (n : ℕ) → EndsJoin log (Ok n) v ss old new → FillsJoined (Ok n) v ss (log old.disk) (log new.disk)
-    fills_all n (added, failed, ends) = (
-      ends.1.2,
-      goes_all log v old new is file (joined v ss) (subst (λ (xs : List Slip). Adds log xs None old new) ends.1.1.0
-          (subst (λ (o : Option Slip). Adds log added o old new) ends.1.1.1 ends.0)),
-    )
+  -- or some first ones
+  part : (added : List Slip) (failed some : Option Slip) → failed ≡ some → Adds log added failed old new
+      → AreFirst (joined v ss) added × GoesOn (joined v ss) added failed
+      → Goes (failures_after some) (HasPart v (joined v ss)) (log old.disk) (log new.disk)
+  part added failed some same adds first =
+      subst (λ (o : Option Slip). Goes (failures_after o) (HasPart v (joined v ss)) (log old.disk) (log new.disk)) same
+      (goes_part log v old new is file (joined v ss) added failed first.0 first.1 adds)
 
-    part : (result : Result ℕ StoreFault) (added : List Slip) (failed some : Option Slip) → failed ≡ some
-        → Adds log added failed old new → StopsJoining result v ss old added failed
-        → Goes (failures_after some) (HasPart v (joined v ss)) (log old.disk) (log new.disk)
-    part result added failed some same adds stops =
-        let first = first_joined result added failed stops in
-        subst (λ (o : Option Slip). Goes (failures_after o) (HasPart v (joined v ss)) (log old.disk) (log new.disk)) same
-        (goes_part log v old new is file (joined v ss) added failed first.0 first.1 adds)
-
-    -- or not
-    pub fills_some : (fault : StoreFault) → EndsJoin log (Err fault) v ss old new
-        → FillsJoined (Err (fault_of_store fault)) v ss (log old.disk) (log new.disk)
-    fills_some store.Memory (added, failed, ends) = part (Err store.Memory) added failed None ends.1.1 ends.0 ends.1
-    fills_some store.Disk (added, failed, ends) =
-        part (Err store.Disk) added failed (Some ends.1.1.0) ends.1.1.2.1 ends.0 ends.1
-    fills_some store.OtherPlan (added, failed, ends) = absurd (ends.1.0 is.plan)
-    fills_some store.Broken (added, failed, ends) =
-        absurd (not_some (subst (λ (o : Option Slip). IsSome o) is.whole ends.1.1.1))
-    fills_some fault (added, failed, ends) = absurd ends.1.1
+  pub fills_some : (fault : StoreFault) → EndsJoin log (Err fault) v ss old new
+      → FillsJoined (Err (fault_of_store fault)) v ss (log old.disk) (log new.disk)
+  fills_some store.Memory (added, failed, ends) = part added failed None ends.1.1 ends.0
+      ((joined v ss, ap (λ (xs : List Slip). xs ++ joined v ss) (sym ends.1.0)),
+      none_next (joined v ss) added failed ends.1.1)
+  fills_some store.Disk (added, failed, ends) = part added failed (Some ends.1.1.0) ends.1.1.2.1 ends.0
+      (first_added {T = ℕ} (Err store.Disk) (joined v ss) old.doubtful added failed ends.1.1)
+  fills_some store.OtherPlan (added, failed, ends) = absurd (ends.1.0 is.plan)
+  fills_some store.Broken (added, failed, ends) =
+      absurd (let some = subst (λ (o : Option Slip). IsSome o) is.whole ends.1.1.1 in cc some)
+  fills_some fault (added, failed, ends) = absurd ends.1.1
 
 -- ---- the journal is made, and filled
-
-begun_or : (v : Values) (ss : List Slip) (count : ℕ → ℕ) (old new : DiskLog)
-    → Goes count (IsBegun v (joined v ss)) old new
-    → Goes count (LeavesDisk {T = ℕ} (Err Memory) v ss) old new
-begun_or v ss count old new goes =
-    record { known = goes.known; state = λ known. inr (goes.state known); faults = goes.faults }
 
 pub left_filled : (result : Result ℕ CliFault) (v : Values) (ss : List Slip) (old mid new : DiskLog)
     → Goes (λ n. n) (IsClaimed v) old mid → FillsJoined result v ss mid new
     → Goes (writing_faults result) (LeavesDisk result v ss) old new
 left_filled (Ok n) v ss old mid new claimed fills = goes_filled v (joined v ss) old mid new claimed fills.1
 left_filled (Err Memory) v ss old mid new claimed fills =
-    begun_or v ss (λ n. n) old new (goes_begun (λ n. n) v (joined v ss) old mid new claimed fills)
+    let goes = goes_begun (λ n. n) v (joined v ss) old mid new claimed fills in
+    record { known = goes.known; state = λ known. inr (goes.state known); faults = goes.faults }
 left_filled (Err (Migrate store.Disk)) v ss old mid new claimed fills =
     goes_begun one_more v (joined v ss) old mid new claimed fills
 left_filled (Err fault) v ss old mid new claimed fills = absurd fills
 
-pub filled_count : (result : Result ℕ CliFault) (v : Values) (ss : List Slip) (mid new : DiskLog)
-    → FillsJoined result v ss mid new → IfOk result (λ n. n ≡ length (joined v ss))
-filled_count (Ok n) v ss mid new fills = fills.0
-filled_count (Err fault) v ss mid new fills = tt
-
-pub filled_stops : (result : Result ℕ CliFault) (v : Values) (ss : List Slip) (mid new : DiskLog)
-    → FillsJoined result v ss mid new → IfErr result StopsWriting
-filled_stops (Ok n) v ss mid new fills = tt
-filled_stops (Err Memory) v ss mid new fills = tt
-filled_stops (Err (Migrate store.Disk)) v ss mid new fills = tt
-filled_stops (Err fault) v ss mid new fills = absurd fills
+-- how many there are is said, or why not all were written
+pub filled_ends : (result : Result ℕ CliFault) (v : Values) (ss : List Slip) (mid new : DiskLog)
+    → FillsJoined result v ss mid new
+    → IfOk result (λ n. n ≡ length (joined v ss)) × IfErr result StopsWriting
+filled_ends (Ok n) v ss mid new fills = (fills.0, tt)
+filled_ends (Err Memory) v ss mid new fills = (tt, tt)
+filled_ends (Err (Migrate store.Disk)) v ss mid new fills = (tt, tt)
+filled_ends (Err fault) v ss mid new fills = absurd fills
 
 pub left_unclaimed : (fault : JournalFault) (v : Values) (ss : List Slip) (old new : DiskLog) → MayNotClaim fault
     → Goes (fault_counts fault) (IsNotClaimed v fault) old new
