@@ -21,7 +21,7 @@ use Rattle.cut_journal.specs.Opening as opening
 use Rattle.cut_journal.specs.Reading.{reading}
 use Rattle.cut_commands.specs.declared.fault.CliFault.{CliFault}
 use Rattle.cut_commands.specs.declared.fault.CliFault.TheVariants.{Memory, Journal, BadSlip}
-use Rattle.cut_machines.specs.JoinSources.{AreRead, HaveRunOut, HoldAll, Holds, IsFirstRefused, IsReadUpTo, IsRefused}
+use Rattle.cut_machines.specs.JoinSources.{AreRead, HaveRunOut, HoldAll, Holds, IsReadUpTo, IsRefused}
 use Rattle.cut_machines.specs.JoinSources.{IsRefusedAt, SaysNone, StopsReading, after_refusal, failed_once, read_times}
 use Rattle.cut_machines.specs.JoinSources.{synced_times, times_named}
 use Rattle.cut_machines.specs.inside.JoinSources.{AddsHeld, HaveBadSlip, IsUnopened, IsUnread, LeavesFile, LeavesRefused}
@@ -80,19 +80,10 @@ for_each P path here beside other = elim (same_path other path) [
 read_again : (n : ℕ) (file : Place) → read_times 1 (read_times n file) ≡ read_times (suc n) file
 read_again n (place.Holds log) = elim log.state as (λ state. place.Holds (log_of (option_map (synced_times 1)
     (option_map (synced_times n) state)) log.failed) ≡ place.Holds (log_of (option_map (synced_times (suc n)) state) log.failed)) [
-  | None ↦ refl
-  | Some d ↦ refl
-]
-read_again n other = refl
-
-read_none : (file : Place) → read_times 0 file ≡ file
-read_none (place.Holds log) =
-    elim log.state as (λ state. place.Holds (log_of (option_map (synced_times 0) state) log.failed)
-    ≡ place.Holds (log_of state log.failed)) [
       | None ↦ refl
       | Some d ↦ refl
     ]
-read_none other = refl
+read_again n other = refl
 
 open_read : (n : ℕ) (file : Place) → IsOpen file → read_times n file ≡ file
 open_read n (place.Holds log) out = absurd out
@@ -103,9 +94,6 @@ open_refused : (fault : JournalFault) (n : ℕ) (file : Place) → IsOpen file
 open_refused journal.Disk n (place.Holds log) out = absurd out
 open_refused journal.Disk n other out = refl
 open_refused fault n file out = open_read n file out
-
-pub none_read : (found : List ℕ → Place) → AreRead found found []
-none_read found = λ path. sym (read_none (found path))
 
 -- the slips of one more file come after those of the others
 hold_one_more : (found : List ℕ → Place) (paths : List (List ℕ)) (path : List ℕ) (v : Values) (slips more : List Slip)
@@ -236,14 +224,10 @@ module _ (paths : List (Bor (List ℕ))) (i : ℕ) (d : Bor (List ℕ)) (low : i
 
 -- ---- what is open stays open
 
-pub open_where_read : (found left : List ℕ → Place) (paths : List (List ℕ)) → AreRead found left paths
-    → StaysOpen found left
-open_where_read found left paths read = λ path out.
-    read path ∙ open_read (times_named path paths) (found path) out
-
 pub open_where_unread : (found left : List ℕ → Place) (paths : List (List ℕ)) (v : Values) (fault : CliFault)
     → IsUnread found left paths v fault → StaysOpen found left
-open_where_unread found left paths v Memory out = open_where_read found left out.before out.read
+open_where_unread found left paths v Memory out = λ path is.
+    out.read path ∙ open_read (times_named path out.before) (found path) is
 open_where_unread found left paths v (Journal fault) first =
     for_each (λ p. IsOpen (found p) → left p ≡ found p) first.path
     (λ out. first.here ∙ open_refused fault (times_named first.path first.read) (found first.path) out)

@@ -17,7 +17,7 @@ use Rattle.cut_shares.specs.join.Joining.{EndsJoin}
 use Rattle.cut_commands.specs.declared.fault.CliFault.{CliFault}
 use Rattle.cut_commands.specs.declared.fault.CliFault.TheVariants.{Memory, Migrate}
 use Rattle.cut_commands.specs.Faults.{fault_of_journal, fault_of_store}
-use Rattle.cut_commands.specs.NewStudy.{HasPart, IsBegun, IsNewJournal, writing_faults}
+use Rattle.cut_commands.specs.NewStudy.{HasPart, IsNewJournal, writing_faults}
 use Rattle.cut_commands.proofs.NewStudies.{AreFirst, GoesOn, first_added, goes_all, goes_begun, goes_filled, goes_part}
 use Rattle.cut_commands.proofs.NewStudies.{none_next}
 use Rattle.cut_machines.specs.JoinTarget.{LeavesDisk, StopsWriting}
@@ -45,9 +45,10 @@ module _ {D : Type 0} (log : D → DiskLog) (v : Values) (ss : List Slip) (old n
 
   pub fills_some : (fault : StoreFault) → EndsJoin log (Err fault) v ss old new
       → FillsJoined (Err (fault_of_store fault)) v ss (log old.disk) (log new.disk)
-  fills_some store.Memory (added, failed, ends) = part added failed None ends.1.1 ends.0
-      ((joined v ss, ap (λ (xs : List Slip). xs ++ joined v ss) (sym ends.1.0)),
-      none_next (joined v ss) added failed ends.1.1)
+  fills_some store.Memory (added, failed, ends) = part added failed None ends.1.1 ends.0 (
+    (joined v ss, ap (λ (xs : List Slip). xs ++ joined v ss) (sym ends.1.0)),
+    none_next (joined v ss) added failed ends.1.1,
+  )
   fills_some store.Disk (added, failed, ends) = part added failed (Some ends.1.1.0) ends.1.1.2.1 ends.0
       (first_added {T = ℕ} (Err store.Disk) (joined v ss) old.doubtful added failed ends.1.1)
   fills_some store.OtherPlan (added, failed, ends) = absurd (ends.1.0 is.plan)
@@ -86,12 +87,3 @@ left_unclaimed journal.Disk v ss old new may goes = goes
 left_unclaimed journal.Held v ss old new may goes = goes
 left_unclaimed journal.NoStudy v ss old new may goes = goes
 left_unclaimed fault v ss old new may goes = absurd may
-
--- ---- the answer
-
--- memory ran out for it once all slips were written
-pub left_unsaid : (v : Values) (ss : List Slip) (old new : DiskLog) (n : ℕ)
-    → Goes (writing_faults (Ok n)) (LeavesDisk (Ok n) v ss) old new
-    → Goes (writing_faults {T = ℕ} (Err Memory)) (LeavesDisk {T = ℕ} (Err Memory) v ss) old new
-left_unsaid v ss old new n goes =
-    record { known = goes.known; state = λ known. inr (goes.state known).begun; faults = goes.faults }

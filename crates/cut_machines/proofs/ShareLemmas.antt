@@ -7,7 +7,7 @@ use Rattle.std.proofs.lemmas.List.{take_all}
 use Rattle.cut_plan.specs.Values.{Values}
 use Rattle.cut_disks.specs.Log.{DiskLog, Goes, IsKnown, is_known, on}
 use Rattle.cut_ledger.specs.declared.slip.Slip.{Slip}
-use Rattle.cut_journal.specs.Journal.{AppendsEach, JournalValue, IsFileOf, ReadsAs, kept_slips}
+use Rattle.cut_journal.specs.Journal.{JournalValue, IsFileOf, ReadsAs, kept_slips}
 use Rattle.cut_journal.specs.Opening.{IsOpened}
 use Rattle.cut_journal.specs.declared.store_fault.StoreFault.{StoreFault}
 use Rattle.cut_journal.specs.declared.store_fault.StoreFault.TheVariants as store
@@ -42,77 +42,72 @@ doubtful_of : (failed before : Option Slip) → before ≡ None → doubtful_aft
 doubtful_of None before none = none
 doubtful_of (Some slip) before none = refl
 
-module _ {D : Type 0} (log_of : D → DiskLog) where
-  -- a journal was opened over the slips that were found on a disk
-  pub record HasOpened (v : Values) (slips : List Slip) (disk : D) (log : JournalValue D) : Type 0 where
-    pub plan : log.plan ≡ v
-    pub count : log.count ≡ length slips
-    pub whole : log.doubtful ≡ None
-    pub found : Goes (λ n. n) (IsOpened v slips) (log_of disk) (log_of log.disk)
+-- a journal was opened over the slips that were found on a disk, and a share was run over it
+module _ {D : Type 0} (log_of : D → DiskLog) (v : Values) (slips : List Slip) (disk : D) (log new : JournalValue D)
+    (plan : log.plan ≡ v) (count : log.count ≡ length slips) (whole : log.doubtful ≡ None)
+    (found : Goes (λ n. n) (IsOpened v slips) (log_of disk) (log_of log.disk))
+    (sound : IsKnown (log_of new.disk) → IsFileOf new.plan new.count new.doubtful (on (log_of new.disk))) where
+  kept_first : IsKnown (log_of disk) → kept_slips log.plan log.count (on (log_of log.disk)) ≡ slips
+  kept_first known = let read = (found.state known).read in grind (arith, read, take_all)
 
-  module _ (v : Values) (slips : List Slip) (disk : D) (log new : JournalValue D) (opened : HasOpened v slips disk log)
-      (sound : IsKnown (log_of new.disk) → IsFileOf new.plan new.count new.doubtful (on (log_of new.disk))) where
-    kept_first : IsKnown (log_of disk) → kept_slips log.plan log.count (on (log_of log.disk)) ≡ slips
-    kept_first known = let read = (opened.found.state known).read in grind (arith, read, take_all)
+  adds_to : (added : List Slip) (failed some : Option Slip) → failed ≡ some → Adds log_of added failed log new
+      → AddsTo v slips added some (log_of disk) (log_of new.disk)
+  adds_to added failed some is adds known =
+      let first = kept_first known in
+      let doubt : new.doubtful ≡ some = adds.doubtful ∙ doubtful_of failed log.doubtful whole ∙ is in
+      let at_log : IsKnown (log_of log.disk) = found.known ∙ known in
+      let same : new.plan ≡ v = adds.plan ∙ plan in
+      let kept : kept_slips new.plan new.count (on (log_of new.disk)) ≡ slips ++ added =
+      (adds.disk.state at_log).kept ∙ ap (λ (ss : List Slip). ss ++ added) first in
+      record {
+        found = (found.state known).found;
+        opened = on (log_of log.disk);
+        opening = (found.state known).moments;
+        moments = rw (sym plan, sym first, sym doubt) (adds.disk.state at_log).moments;
+        bytes = say_up_to v (slips ++ added) some (on (log_of new.disk)).bytes
+            (rw (sym same, sym kept, sym doubt) (sound (adds.disk.known ∙ at_log)).bytes);
+      }
 
-    adds_to : (added : List Slip) (failed some : Option Slip) → failed ≡ some → Adds log_of added failed log new
-        → AddsTo v slips added some (log_of disk) (log_of new.disk)
-    adds_to added failed some is adds known =
-        let first = kept_first known in
-        let doubt : new.doubtful ≡ some = adds.doubtful ∙ doubtful_of failed log.doubtful opened.whole ∙ is in
-        let at_log : IsKnown (log_of log.disk) = opened.found.known ∙ known in
-        let plan : new.plan ≡ v = adds.plan ∙ opened.plan in
-        let kept : kept_slips new.plan new.count (on (log_of new.disk)) ≡ slips ++ added =
-        (adds.disk.state at_log).kept ∙ ap (λ (ss : List Slip). ss ++ added) first in
-        record {
-          found = (opened.found.state known).found;
-          opened = on (log_of log.disk);
-          opening = (opened.found.state known).moments;
-          moments = rw (sym opened.plan, sym first, sym doubt) (adds.disk.state at_log).moments;
-          bytes = say_up_to v (slips ++ added) some (on (log_of new.disk)).bytes
-              (rw (sym plan, sym kept, sym doubt) (sound (adds.disk.known ∙ at_log)).bytes);
-        }
+  -- what is kept where these slips were added, and how many calls of the disk failed
+  keeps : (result : Result ℕ CliFault) (s : Share) (added : List Slip) (failed some : Option Slip) → failed ≡ some
+      → Adds log_of added failed log new → ((n : ℕ) → failures_after some n ≡ disk_faults_after result n)
+      → (AddsTo v slips added some (log_of disk) (log_of new.disk)
+      → EndsKeeping result s v (log_of disk) (log_of new.disk))
+      → KeepsShare result s v (log_of disk) (log_of new.disk)
+  keeps result s added failed some is adds same ends = record {
+    ends = ends (adds_to added failed some is adds);
+    known = adds.disk.known ∙ found.known;
+    faults = adds.disk.faults ∙ ap (λ (o : Option Slip). failures_after o (log_of log.disk).failed) is
+        ∙ ap (failures_after some) found.faults ∙ same (log_of disk).failed;
+  }
 
-    -- what is kept where these slips were added, and how many calls of the disk failed
-    keeps : (result : Result ℕ CliFault) (s : Share) (added : List Slip) (failed some : Option Slip) → failed ≡ some
-        → Adds log_of added failed log new → ((n : ℕ) → failures_after some n ≡ disk_faults_after result n)
-        → (AddsTo v slips added some (log_of disk) (log_of new.disk)
-        → EndsKeeping result s v (log_of disk) (log_of new.disk))
-        → KeepsShare result s v (log_of disk) (log_of new.disk)
-    keeps result s added failed some is adds same ends = record {
-      ends = ends (adds_to added failed some is adds);
-      known = adds.disk.known ∙ opened.found.known;
-      faults = adds.disk.faults ∙ ap (λ (o : Option Slip). failures_after o (log_of log.disk).failed) is
-          ∙ ap (failures_after some) opened.found.faults ∙ same (log_of disk).failed;
-    }
+  -- the run ended well
+  pub keeps_all : (n : ℕ) (s : Share) → EndsShare log_of (Ok n) s v slips log new
+      → KeepsShare (Ok n) s v (log_of disk) (log_of new.disk)
+  keeps_all n s (added, failed, ends) = keeps (Ok n) s added failed None ends.1.4 ends.0 (λ m. refl) (λ adds. (
+    ends.1.0,
+    record { slips = slips; added = added; adds = adds; good = ends.1.1.good; own = ends.1.2; whole = ends.1.3 },
+  ))
 
-    -- the run ended well
-    pub keeps_all : (n : ℕ) (s : Share) → EndsShare log_of (Ok n) s v slips log new
-        → KeepsShare (Ok n) s v (log_of disk) (log_of new.disk)
-    keeps_all n s (added, failed, ends) = keeps (Ok n) s added failed None ends.1.4 ends.0 (λ m. refl) (λ adds. (
-      ends.1.0,
-      record { slips = slips; added = added; adds = adds; good = ends.1.1.good; own = ends.1.2; whole = ends.1.3 },
-    ))
-
-    -- or with a fault
-    pub keeps_fault : (fault : StoreFault) (s : Share) → EndsShare log_of (Err fault) s v slips log new
-        → KeepsShare (Err (fault_of_share fault)) s v (log_of disk) (log_of new.disk)
-    keeps_fault store.OtherPlan s (added, failed, ends) = absurd (ends.1.0 opened.plan)
-    keeps_fault store.Broken s (added, failed, ends) =
-        absurd (let some = subst (λ (o : Option Slip). IsSome o) opened.whole ends.1.2 in cc some)
-    keeps_fault (store.BadSlip number) s (added, failed, ends) =
-        keeps (Err (BadSlip number)) s added failed None ends.1.2.1 ends.0 (λ m. refl)
-        (λ adds. (slips, (rw (sym ends.1.2.0) adds, ends.1.1)))
-    keeps_fault store.Memory s (added, failed, ends) =
-        keeps (Err WorkMemory) s added failed None ends.1.1.1 ends.0 (λ m. refl)
-        (λ adds. (slips, added, (adds, none_of_share s v slips added ends.1.1.0, inl ends.1.1.0)))
-    keeps_fault store.WorkMemory s (added, failed, ends) =
-        keeps (Err WorkMemory) s added failed None ends.1.3 ends.0 (λ m. refl)
-        (λ adds. (slips, added, (adds, ends.1.1, inr (ends.1.0.good, ends.1.2))))
-    keeps_fault store.Disk s (added, failed, ends) =
-        keeps (Err Checkpoint) s added failed (Some ends.1.1.0) ends.1.1.1.1 ends.0 (λ m. refl)
-        (λ adds. (slips, added, ends.1.1.0, (adds, ends.1.0.good, ends.1.1.1.0)))
-    keeps_fault fault s (added, failed, ends) = absurd ends.1
+  -- or with a fault
+  pub keeps_fault : (fault : StoreFault) (s : Share) → EndsShare log_of (Err fault) s v slips log new
+      → KeepsShare (Err (fault_of_share fault)) s v (log_of disk) (log_of new.disk)
+  keeps_fault store.OtherPlan s (added, failed, ends) = absurd (ends.1.0 plan)
+  keeps_fault store.Broken s (added, failed, ends) =
+      absurd (let some = subst (λ (o : Option Slip). IsSome o) whole ends.1.2 in cc some)
+  keeps_fault (store.BadSlip number) s (added, failed, ends) =
+      keeps (Err (BadSlip number)) s added failed None ends.1.2.1 ends.0 (λ m. refl)
+      (λ adds. (slips, (rw (sym ends.1.2.0) adds, ends.1.1)))
+  keeps_fault store.Memory s (added, failed, ends) =
+      keeps (Err WorkMemory) s added failed None ends.1.1.1 ends.0 (λ m. refl)
+      (λ adds. (slips, added, (adds, none_of_share s v slips added ends.1.1.0, inl ends.1.1.0)))
+  keeps_fault store.WorkMemory s (added, failed, ends) =
+      keeps (Err WorkMemory) s added failed None ends.1.3 ends.0 (λ m. refl)
+      (λ adds. (slips, added, (adds, ends.1.1, inr (ends.1.0.good, ends.1.2))))
+  keeps_fault store.Disk s (added, failed, ends) =
+      keeps (Err Checkpoint) s added failed (Some ends.1.1.0) ends.1.1.1.1 ends.0 (λ m. refl)
+      (λ adds. (slips, added, ends.1.1.0, (adds, ends.1.0.good, ends.1.1.1.0)))
+  keeps_fault fault s (added, failed, ends) = absurd ends.1
 
 -- ---- how it ends over a disk
 
