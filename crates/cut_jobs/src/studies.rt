@@ -48,7 +48,9 @@ where
 /// The study of a run, whose workers pass a gate.
 fn study_of<'a, G>(options: &RunOptions<'a>, gate: &'a G) -> StudyWork<'a, G>
 where
-    ensures { (result.checkpoint ≡ options.now.checkpoint) × (result.plan ≡ options.now.plan) }
+    ensures files { (result.checkpoint ≡ options.now.checkpoint) × (result.plan ≡ options.now.plan) }
+    ensures work { (result.work.piece_size ≡ options.now.piece) × (result.work.workers ≡ options.now.workers)
+        × (result.work.gate ≡ gate.entry) }
 {
     StudyWork {
         work: Work {
@@ -95,6 +97,7 @@ where
     ensures files { (result.file ≡ options.now.file) × (result.plan ≡ options.now.plan) }
     ensures share { (result.share.index ≡ options.now.index) × (result.share.shares ≡ options.now.shares)
         × (result.share.block_size ≡ options.now.piece) }
+    ensures work { (result.workers ≡ options.now.workers) × (result.gate ≡ gate.entry) }
 {
     ShareWork {
         share: Share {
