@@ -12,7 +12,7 @@ use cut_commands::{
     status,
 };
 use cut_files::Files;
-use cut_server::{Capacity, serve_at};
+use cut_server::{Capacity, SocketServer, serve_at};
 use cut_sockets::Sockets;
 use cut_wires::Wire;
 use std::sync::Wait;
@@ -96,8 +96,13 @@ where
         sessions: options.sessions,
         studies: options.studies,
     };
+    let server = SocketServer {
+        socket: options.socket,
+        folder: options.folder,
+        capacity,
+    };
     let System { host, rt } = system;
-    match serve_at(host, rt, options.socket, capacity, options.folder, wire) {
+    match serve_at(host, rt, server, wire) {
         Ok(_report) => Ok(()),
         Err(fault) => Err(fault),
     }

@@ -1,7 +1,7 @@
 //! A server of studies at a socket: its workers and its sessions are threads of one hall.
 //!
-//! [`serve_sessions`] takes its connections from any [`Listener`], serves each in a thread of its own, and gives the
-//! hall's report; [`serve_io`] writes how many trials the studies of it accepted, and [`serve_at`] does so for the
+//! A [`Server`] takes its connections from any [`Listener`], serves each in a thread of its own, and gives the hall's
+//! report; [`Server::serve_io`] writes how many trials the studies of it accepted, and [`serve_at`] does so for the
 //! connections of a [`Socket`], which is a socket at a path. A [`FolderShelf`] keeps each study in a file of a folder.
 //!
 //! No contract says that a wait ends: neither that a connection comes, nor that a session ends.
@@ -15,7 +15,7 @@ mod socket;
 mod threads;
 
 pub use capacity::Capacity;
-pub use serve::{serve_at, serve_io, serve_sessions};
+pub use serve::{Server, SocketServer, serve_at};
 pub use shelf::FolderShelf;
 pub use socket::{Socket, SocketWire};
 pub use threads::{ListenFault, Listener};

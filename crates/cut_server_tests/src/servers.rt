@@ -3,7 +3,7 @@
 use cut_commands::{CliFault, PlanSource, ask};
 use cut_faults::Failures;
 use cut_files::MemoryFiles;
-use cut_server::{Capacity, FolderShelf, ListenFault, Listener, serve_at, serve_io};
+use cut_server::{Capacity, FolderShelf, ListenFault, Listener, Server, SocketServer, serve_at};
 use cut_sockets::SystemSockets;
 use cut_wires::MemoryWire;
 use std::alloc::{AllocError, Global};
@@ -34,7 +34,7 @@ const LIAR_TABLE: &str =
 
 /// A server of this many sessions, and the line with which it ends: what it writes, or its fault. What it writes is not
 /// compared if there is no line.
-struct Server {
+struct ServerCase {
     socket: &'static str,
     sessions: u32,
     folder: Option<&'static str>,
@@ -45,7 +45,7 @@ struct Server {
 fn ends_so<T: Threads + Wait + Sync>(
     host: &HostRuntime,
     rt: &T,
-    server: &Server,
+    server: &ServerCase,
 ) -> Result<bool, AllocError> {
     let alloc = host.alloc();
     let capacity = Capacity {
@@ -54,7 +54,12 @@ fn ends_so<T: Threads + Wait + Sync>(
         studies: 2,
     };
     let mut wire = MemoryWire::new(alloc, Vec::new(alloc), 100);
-    match serve_at(host, rt, server.socket, capacity, server.folder, &mut wire) {
+    let place = SocketServer {
+        socket: server.socket,
+        folder: server.folder,
+        capacity,
+    };
+    match serve_at(host, rt, place, &mut wire) {
         Ok(_report) => Ok(server.line.is_empty() || wire.taken() == server.line.as_bytes()),
         Err(fault) => {
             Ok(wire.taken().is_empty() && fault.to_string(alloc)?.as_str() == server.line)
@@ -185,7 +190,7 @@ fn are_served<T: Threads + Wait + Sync>(
 fn goes_so<T: Threads + Wait + Sync>(
     host: &HostRuntime,
     rt: &T,
-    server: &Server,
+    server: &ServerCase,
     visit: Visit,
 ) -> Result<bool, AllocError> {
     let _ = fs::remove_file(host, server.socket);
@@ -197,9 +202,9 @@ fn goes_so<T: Threads + Wait + Sync>(
     Ok(ended? && served? && fs::metadata(host, server.socket).is_err())
 }
 
-const SERVERS: &[(Server, Visit)] = &[
+const SERVERS: &[(ServerCase, Visit)] = &[
     (
-        Server {
+        ServerCase {
             socket: "cutlab_two_clients.sock",
             sessions: 2,
             folder: None,
@@ -208,7 +213,7 @@ const SERVERS: &[(Server, Visit)] = &[
         Visit::Two,
     ),
     (
-        Server {
+        ServerCase {
             socket: "cutlab_vanish.sock",
             sessions: 1,
             folder: None,
@@ -217,7 +222,7 @@ const SERVERS: &[(Server, Visit)] = &[
         Visit::Vanished,
     ),
     (
-        Server {
+        ServerCase {
             socket: "cutlab_late.sock",
             sessions: 1,
             folder: None,
@@ -239,20 +244,20 @@ fn servers_and_their_clients(rt: HostRuntime) -> Result<(), Fail> {
 const PLAIN_FILE: &str = "cutlab_plain_file";
 
 /// Servers that can't begin.
-const REFUSED: &[Server] = &[
-    Server {
+const REFUSED: &[ServerCase] = &[
+    ServerCase {
         socket: "cutlab_none/a.sock",
         sessions: 1,
         folder: None,
         line: "cutlab: fault 43 Read",
     },
-    Server {
+    ServerCase {
         socket: "cutlab_plain.sock",
         sessions: 1,
         folder: Some(PLAIN_FILE),
         line: "cutlab: fault 20 Disk",
     },
-    Server {
+    ServerCase {
         socket: "cutlab_begin.sock",
         sessions: 1,
         folder: Some("cutlab_none"),
@@ -312,13 +317,18 @@ fn a_connection_that_does_not_come_is_reported(rt: HostRuntime) {
         host: &rt,
         folder: None,
     };
-    let capacity = Capacity {
-        workers: 1,
-        sessions: 2,
-        studies: 1,
+    let server = Server {
+        rt: &rt,
+        alloc,
+        shelf: &shelf,
+        capacity: Capacity {
+            workers: 1,
+            sessions: 2,
+            studies: 1,
+        },
     };
     let mut wire = MemoryWire::new(alloc, Vec::new(alloc), 100);
-    let (listener, ended) = serve_io(&rt, alloc, listener, &shelf, capacity, &mut wire);
+    let (listener, ended) = server.serve_io(listener, &mut wire);
     assert!(rt; matches!(ended, Err(CliFault::Socket)));
     assert!(rt; listener.failures.count() == 1 && listener.given.count() == 1);
     assert!(rt; wire.taken().is_empty());

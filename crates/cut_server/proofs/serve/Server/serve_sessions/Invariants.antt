@@ -1,5 +1,5 @@
 use Rattle.std.proofs.Common.{false, None}
-use Rattle.cut_server.proofs.serve.serve_sessions.Given as goal
+use Rattle.cut_server.proofs.serve.Server.serve_sessions.Given as goal
 
 abbrev pub ghosts-serve_by-M-Ledger : goal.ghosts-serve_by-M-Ledger
 ghosts-serve_by-M-Ledger g a = record { name = a.blanks.made.name; parts = a.blanks.made.parts }
@@ -13,6 +13,6 @@ ghosts-serve_by-M-CallLedger g a = record { all = a.blanks.made.parts; trusts = 
 abbrev pub ghosts-serve_by-K-CallLedger : goal.ghosts-serve_by-K-CallLedger
 ghosts-serve_by-K-CallLedger g a = record {
   all = a.blanks.kept.parts;
-  trusts = g.S.Shelf.is_true a.shelf.now;
+  trusts = g.S.Shelf.is_true a.self.now.shelf.now;
   opening = None;
 }
