@@ -72,29 +72,28 @@ where
     ghost fits = { λ _. Prim.omega arith };
 }
 
-/// Writes the table of an opened study: the header, and the line of each cell in order. Returns how many bytes the
-/// table has.
-pub(crate) fn emit<D, M, K, W, G, R>(
-    rows: &mut StudyRows<'_, D, M, K, G, R>,
-    wire: &mut W,
-) -> Result<u64, EmitFault>
+impl<D, M, K, G, R> StudyRows<'_, D, M, K, G, R>
 where
     D: Disk + Drop,
     M: CallLedger,
     K: CallLedger,
-    W: Wire,
     G: Gate,
     R: Wait,
-    ensures emits { EmitsStudy (table_over rows.old.opened.now.plan rows.old.opened.now.base) result
-        (W.log wire.old) (W.log wire.new) }
-    ensures pass { rows.new.pass.ghost_name ≡ rows.old.pass.ghost_name }
-    ensures own { rows.new.pass.now.hall ≡ rows.old.pass.now.hall }
-    ensures made { OnOk result (rows.old.pass.now.made + length (cells_of rows.old.opened.now.plan)
-        ≤ rows.new.pass.now.made) }
 {
-    let mut writer = CountingWriter::new(wire);
-    let result = send_rows::<PlainRows, StudyRows<'_, D, M, K, G, R>, W>(rows, &mut writer);
-    emit_result_of(result, writer.sent())
+    /// Writes the table of the study: the header, and the line of each cell in order. Returns how many bytes the table
+    /// has.
+    pub(crate) fn emit<W: Wire>(&mut self, wire: &mut W) -> Result<u64, EmitFault>
+        ensures emits { EmitsStudy (table_over self.old.opened.now.plan self.old.opened.now.base) result
+            (W.log wire.old) (W.log wire.new) }
+        ensures pass { self.new.pass.ghost_name ≡ self.old.pass.ghost_name }
+        ensures own { self.new.pass.now.hall ≡ self.old.pass.now.hall }
+        ensures made { OnOk result (self.old.pass.now.made + length (cells_of self.old.opened.now.plan)
+            ≤ self.new.pass.now.made) }
+    {
+        let mut writer = CountingWriter::new(wire);
+        let result = send_rows::<PlainRows, Self, W>(self, &mut writer);
+        emit_result_of(result, writer.sent())
+    }
 }
 
 /// The result of writing a table, by the result of sending its lines and the number of bytes sent.

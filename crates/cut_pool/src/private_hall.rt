@@ -15,7 +15,7 @@ ghost use Rattle.cut_slots.specs.Trust.{begun_props};
 
 use crate::RunFault;
 use crate::conclusion::{conclude_run, disk_of};
-use crate::emit::{EmitFault, StudyRows, emit};
+use crate::emit::{EmitFault, StudyRows};
 use crate::study_run::EndedRun;
 use cut_book::{Book, Opened};
 use cut_disks::Disk;
@@ -212,7 +212,7 @@ impl<M: CallLedger> WorkerPasses<M> {
                 pass: writer,
                 gate,
             };
-            let sent = emit(&mut rows, wire);
+            let sent = rows.emit(wire);
             hall.stop(rt);
             sent
         };
