@@ -1,5 +1,6 @@
 //! What no contract says: the texts of faults, and devices that fail.
 
+mod answers;
 mod asking;
 mod checkpoints;
 mod crews;

@@ -17,7 +17,7 @@ use std::thread::Threads;
 const FILE: &str = "study.cut";
 
 /// A wire that gives the plan.
-fn wire_of(alloc: Global) -> Result<MemoryWire, Fail> {
+pub(super) fn wire_of(alloc: Global) -> Result<MemoryWire, Fail> {
     let input = Vec::from_slice(alloc, PLAN.as_bytes())?;
     Ok(MemoryWire::new(alloc, input, 4096))
 }
