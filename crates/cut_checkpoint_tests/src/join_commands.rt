@@ -134,8 +134,8 @@ fn end_where(alloc: Global, old_at: u64, new_at: u64) -> Result<(End, Option<usi
 #[test]
 fn each_call_of_a_disk_fails(rt: HostRuntime) -> Result<(), Fail> {
     let alloc = rt.alloc();
-    // An old disk of three slips is read in 15 calls.
-    for fail_at in 1..=15 {
+    // An old disk of three slips is read in 11 calls.
+    for fail_at in 1..=11 {
         assert!(rt;
             end_where(alloc, fail_at, 0)? == (End::Disk, Some(2)),
             "{fail_at}"
@@ -148,7 +148,7 @@ fn each_call_of_a_disk_fails(rt: HostRuntime) -> Result<(), Fail> {
             "{fail_at}"
         );
     }
-    assert!(rt; end_where(alloc, 16, 22)? == (End::Joined, None));
+    assert!(rt; end_where(alloc, 12, 22)? == (End::Joined, None));
     Ok(())
 }
 

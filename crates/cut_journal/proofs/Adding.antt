@@ -1,8 +1,8 @@
 -- Slips that are added to a journal, one after another.
-use Rattle.std.proofs.Common.{◌≡◌, ◌∙◌, ◌≤◌, ◌+◌, ◌++◌, inl, inr, ℕ, List, [], ◌∷◌, Ok, Err, Option, Some, None, refl}
+use Rattle.std.proofs.Common.{◌≡◌, ◌∙◌, ◌≤◌, ◌++◌, inl, inr, ℕ, List, [], ◌∷◌, Ok, Err, Option, Some, None, refl}
 use Rattle.std.proofs.Common.{sym, ap, subst, arith, append-nil, append_assoc, length, length-append, unwrap_or}
 use Rattle.std.specs.Bool.{⊤}
-use Rattle.std.specs.Prelude.{IsSome, IsErrOf, Result, ◌↔◌}
+use Rattle.std.specs.Prelude.{IsSome, IsErrOf, ◌↔◌}
 use Rattle.cut_disks.specs.Log.{DiskLog, Knows, on}
 use Rattle.cut_disks.specs.State.{Throughout}
 use Rattle.cut_ledger.specs.declared.slip.Slip.{Slip}

@@ -163,7 +163,7 @@ unfolding can_have_header
 can_alike m bytes others alike long room size can =
     grind (arith, alike_part m 9 13 others bytes alike, alike_part m 1 9 others bytes alike)
 
-header_alike : (m : ℕ) (bytes others : List ℕ) → take m others ≡ take m bytes → m < length others → 45 ≤ m
+pub header_alike : (m : ℕ) (bytes others : List ℕ) → take m others ≡ take m bytes → m < length others → 45 ≤ m
     → text_length bytes + 45 ≤ m → has_header bytes ≡ true → has_header others ≡ true
 unfolding has_header
 header_alike m bytes others alike long room size has =

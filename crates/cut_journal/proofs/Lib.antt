@@ -6,6 +6,7 @@ pub mod Prefixes
 pub mod Gates
 pub mod GoodSlips
 pub mod Headers
+pub mod Heads
 pub mod Moments
 pub mod Places
 pub mod Readings

@@ -22,12 +22,10 @@ use Rattle.cut_journal.specs.File.{open_gate, prefix_of, slip_length}
 use Rattle.cut_journal.specs.Reading.{is_study, says_plan, has_magic, is_magic, text_length, can_have_header}
 use Rattle.cut_journal.specs.Reading.{has_header, is_slip, slip_in, slips_in, slips_reading, reading}
 use Rattle.cut_journal.specs.inside.Steps.{AreRead, AreWhole, Finds, IsOfPlan, IsSlipFault}
-use Rattle.cut_journal.proofs.Places.{ok_not, placed, slips_placed, closed_placed, damaged_placed, are_placed}
+use Rattle.cut_journal.proofs.Places.{placed, slips_placed, closed_placed, damaged_placed, are_placed}
 use Rattle.cut_journal.proofs.Places.{placed_some}
 use Rattle.cut_journal.proofs.Gates.{gate_first, gate_next, gate_far, gate_rises, nine_numbers}
 use Rattle.cut_journal.proofs.Headers.{prefix_begins, begin_alike, says_length, has_can, header_room}
-use Rattle.cut_journal.proofs.Headers.{says_alike, magic_alike}
-use Rattle.std.proofs.Math.Seq.{take-take}
 use Rattle.cut_journal.proofs.Counts.{map_alike, alike_place, alike_prefix, alike_part}
 use Rattle.cut_journal.specs.inside.Places.{body_at, first_slips, gate_place, is_open, is_whole}
 
@@ -105,13 +103,13 @@ gate_there v bytes zero prefix whole = first_there v bytes prefix.header prefix.
 gate_there v bytes (suc n) prefix whole =
     grind (arith, ap_place v bytes (n + 1) (suc n))
 
--- what bytes are read as, by what the tests of the first ones say
-choice : Bool → Bool → Bool → Bool → Result (List Slip) JournalFault → Result (List Slip) JournalFault
-choice study header text letters slips =
+-- what is said of bytes, by what the tests of the first ones say and by what is said of the rest
+unfoldable pub choice : {A : Type 0} → Bool → Bool → Bool → Bool → Result A JournalFault → Result A JournalFault
+choice study header text letters rest =
     cond (not study) (Err NoStudy) (cond (not header) (Err (Damaged 0))
-    (cond (not text) (Err OtherPlan) (cond (not letters) (Err (Damaged 0)) slips)))
+    (cond (not text) (Err OtherPlan) (cond (not letters) (Err (Damaged 0)) rest)))
 
-choice_is : (v : Values) (bytes : List ℕ) → reading v bytes
+pub choice_is : (v : Values) (bytes : List ℕ) → reading v bytes
     ≡ choice (is_study bytes) (has_header bytes) (says_plan v bytes) (has_magic v bytes) (slips_reading v bytes)
 unfolding choice reading
 choice_is v bytes = refl
@@ -121,22 +119,6 @@ choice_none : (study header text letters : Bool) (read : Result (List Slip) Jour
 unfolding choice
 choice_none false header text letters read none = refl
 choice_none true header text letters read none = absurd (cc)
-
-choice_damaged : (study header text letters : Bool) (read : Result (List Slip) JournalFault) → study ≡ true → header
-    ≡ false → choice study header text letters read ≡ Err (Damaged 0)
-unfolding choice
-choice_damaged study header text letters read some none = rw (some, none) refl
-
-choice_other : (study header text letters : Bool) (read : Result (List Slip) JournalFault) → study ≡ true → header
-    ≡ true → text ≡ false → choice study header text letters read ≡ Err OtherPlan
-unfolding choice
-choice_other study header text letters read some whole none = rw (some, whole, none) refl
-
-choice_version : (study header text letters : Bool) (read : Result (List Slip) JournalFault) → study ≡ true → header
-    ≡ true → text ≡ true → letters ≡ false
-    → choice study header text letters read ≡ Err (Damaged 0)
-unfolding choice
-choice_version study header text letters read some whole says none = rw (some, whole, says, none) refl
 
 choice_plan : (study header text letters : Bool) (read : Result (List Slip) JournalFault) → study ≡ true → header ≡ true
     → text ≡ true → letters ≡ true
@@ -153,15 +135,15 @@ choice_some true true false letters read study some is = absurd (cc)
 choice_some true false text letters read study some is = absurd (cc)
 choice_some false header text letters read study some is = absurd (cc)
 
-choice_ok : (study header text letters : Bool) (read : Result (List Slip) JournalFault) (slips : List Slip)
-    → choice study header text letters read ≡ Ok slips
-    → (study ≡ true) × (header ≡ true) × (text ≡ true) × (letters ≡ true) × (read ≡ Ok slips)
+pub choice_ok : {A : Type 0} (study header text letters : Bool) (rest : Result A JournalFault) (found : A)
+    → choice study header text letters rest ≡ Ok found
+    → (study ≡ true) × (header ≡ true) × (text ≡ true) × (letters ≡ true) × (rest ≡ Ok found)
 unfolding choice
-choice_ok true true true true read slips is = (refl, refl, refl, refl, is)
-choice_ok true true true false read slips is = absurd (ok_not slips (Damaged 0) (sym is))
-choice_ok true true false letters read slips is = absurd (ok_not slips OtherPlan (sym is))
-choice_ok true false text letters read slips is = absurd (ok_not slips (Damaged 0) (sym is))
-choice_ok false header text letters read slips is = absurd (ok_not slips NoStudy (sym is))
+choice_ok true true true true rest found is = (refl, refl, refl, refl, is)
+choice_ok true true true false rest found is = absurd (cc)
+choice_ok true true false letters rest found is = absurd (cc)
+choice_ok true false text letters rest found is = absurd (cc)
+choice_ok false header text letters rest found is = absurd (cc)
 
 -- a study of the plan
 pub plan_read : (v : Values) (bytes : List ℕ) → IsOfPlan v bytes → reading v bytes ≡ slips_reading v bytes
@@ -202,21 +184,6 @@ none_read v bytes none = choice_is v bytes ∙ choice_none (is_study bytes) (has
 pub some_read : (v : Values) (bytes : List ℕ) → is_study bytes ≡ true → reading v bytes ≡ Err NoStudy → ⊥
 some_read v bytes some is =
     grind (arith, choice_some, placed_some, reading_placed, choice_is)
-
--- a study without a whole header, and one of another plan
-pub damaged_read : (v : Values) (bytes : List ℕ) → is_study bytes ≡ true → has_header bytes ≡ false → reading v bytes
-    ≡ Err (Damaged 0)
-damaged_read v bytes some header = grind (arith, choice_is, choice_damaged)
-
-pub other_read : (v : Values) (bytes : List ℕ) → is_study bytes ≡ true → has_header bytes ≡ true → says_plan v bytes
-    ≡ false → reading v bytes ≡ Err OtherPlan
-other_read v bytes some header text = grind (arith, choice_is, choice_other)
-
--- one whose letters are those of the other version
-pub version_read : (v : Values) (bytes : List ℕ) → is_study bytes ≡ true → has_header bytes ≡ true → says_plan v bytes
-    ≡ true → has_magic v bytes ≡ false → reading v bytes ≡ Err (Damaged 0)
-version_read v bytes some header text letters =
-    grind (arith, choice_is, choice_version)
 
 -- bytes that say slips
 pub reads_holds : (v : Values) (bytes : List ℕ) (slips : List Slip) → reading v bytes ≡ Ok slips
@@ -310,22 +277,6 @@ pub short_other : (v : Values) (bytes : List ℕ) → has_header bytes ≡ true 
     → says_plan v bytes ≡ false
 short_other v bytes header short = grind (arith, first_there)
 
--- what the bytes of a header say, the file says
-prefix_alike : (v : Values) (bytes prefix into : List ℕ) (n : ℕ) → n ≡ length (canonical_text v) + 45 → prefix
-    ≡ slice_range bytes 0 n → into ≡ prefix → take (gate_place v 0) into ≡ take (gate_place v 0) bytes
-prefix_alike v bytes prefix into n size read same =
-    grind (arith, gate_first, take-take)
-
-pub text_said : (v : Values) (bytes prefix into : List ℕ) (n : ℕ) (says : Bool) → n ≡ length (canonical_text v) + 45
-    → prefix ≡ slice_range bytes 0 n → into ≡ prefix → says ≡ says_plan v into → says_plan v bytes ≡ says
-text_said v bytes prefix into n says size read same reported = sym
-    (reported ∙ says_alike v bytes into (prefix_alike v bytes prefix into n size read same))
-
-pub letters_said : (v : Values) (bytes prefix into : List ℕ) (n : ℕ) (has : Bool) → n ≡ length (canonical_text v) + 45
-    → prefix ≡ slice_range bytes 0 n → into ≡ prefix → has ≡ has_magic v into → has_magic v bytes ≡ has
-letters_said v bytes prefix into n has size read same reported = sym
-    (reported ∙ magic_alike v bytes into (prefix_alike v bytes prefix into n size read same))
-
 -- a file that is too short for a header
 pub text_short : (bytes : List ℕ) (found : Option ℕ) → length bytes < 13 → found ≡ None → found
     ≡ cond (can_have_header bytes) (Some (text_length bytes)) None
@@ -355,14 +306,6 @@ pub header_judged : (bytes : List ℕ) (found : Option ℕ) (n : ℕ) (has : Boo
     ≡ bytes_eq (sha256 (slice_range bytes 1 (n + 13))) (slice_range bytes (n + 13) (n + 45)) → has ≡ has_header bytes
 unfolding has_header
 header_judged bytes found n has reported some is =
-    grind arith
-
-pub digest_test : (old mid : DiskState) (n : ℕ) (has : Bool) → mid ≡ old → can_have_header old.bytes ≡ true → n
-    ≡ text_length old.bytes + 12
-    → has ≡ bytes_eq (sha256 (slice_range mid.bytes 1 (n + 1))) (slice_range mid.bytes (n + 1) (n + 33)) → has
-    ≡ has_header old.bytes
-unfolding has_header
-digest_test old mid n has same can size is =
     grind arith
 
 -- ---- a study that is read to its end

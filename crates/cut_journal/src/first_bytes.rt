@@ -1,11 +1,12 @@
-//! What the first bytes of a file say, whatever its plan.
+//! What the first bytes of a file say.
 
 ghost use Rattle.std.specs.Prelude.{◌≡◌, ◌+◌, ◌≤◌, false, length, slice_range, IfSome, IfNone, if◌then◌else◌};
 ghost use Rattle.std.specs.Prelude.{Some, None};
 ghost use Rattle.cut_journal.specs.Reading.{can_have_header, has_header, is_study, text_length};
+ghost use Rattle.cut_journal.specs.inside.Steps.{head_reading};
 
-use crate::format::{OPEN_GATE, digest_of};
-use crate::layout;
+use crate::format::{FileHeader, OPEN_GATE, digest_of};
+use crate::{JournalFault, layout};
 
 /// Whether bytes hold a study of some plan.
 pub fn is_study(bytes: &[u8]) -> bool
@@ -31,9 +32,31 @@ pub fn header_text(bytes: &[u8]) -> Option<&[u8]>
     Some(&bytes[13..length + 13])
 }
 
+/// What bytes say up to the gate of a first slip: that they are of a plan's study, or why not.
+pub(crate) fn check_head(study: &FileHeader, bytes: &[u8]) -> Result<(), JournalFault>
+    ensures { result ≡ head_reading study.now bytes.now }
+{
+    if !is_study(bytes) {
+        return Err(JournalFault::NoStudy);
+    }
+    if !has_header(bytes) {
+        return Err(JournalFault::Damaged(0));
+    }
+    if bytes.len() <= study.prefix().len() {
+        return Err(JournalFault::OtherPlan);
+    }
+    if !study.says_plan(bytes) {
+        return Err(JournalFault::OtherPlan);
+    }
+    if !study.has_magic(bytes) {
+        return Err(JournalFault::Damaged(0));
+    }
+    Ok(())
+}
+
 /// Whether bytes begin with a whole header, of whichever plan, and have the gate of a first slip.
 #[tactic(auto, using(crate::proofs::Readings::header_judged, crate::proofs::Readings::text_none))]
-pub(crate) fn has_header(bytes: &[u8]) -> bool
+fn has_header(bytes: &[u8]) -> bool
     ensures { result ≡ has_header bytes.now }
 {
     match whole_length(bytes) {

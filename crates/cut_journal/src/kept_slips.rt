@@ -4,7 +4,7 @@ ghost use Rattle.cut_journal.specs.Unread.{IsReadNext, IsUnreadable};
 ghost use Rattle.cut_journal.specs.inside.Steps.{IsOfPlan, IsStep};
 
 use crate::JournalFault;
-use crate::first_bytes::{has_header, is_study};
+use crate::first_bytes::check_head;
 use crate::format::{FileHeader, Gate, OPEN_GATE};
 use cut_ledger::Slip;
 use cut_plan::Plan;
@@ -43,7 +43,7 @@ impl<'a> KeptSlips<'a> {
             Ok(study) => study,
             Err(_) => return Err(JournalFault::Memory),
         };
-        match check_header(&study, bytes) {
+        match check_head(&study, bytes) {
             Ok(()) => {
                 let gate = study.first_gate();
                 Ok(KeptSlips { bytes, study, gate })
@@ -87,27 +87,4 @@ fn first_slip(study: &FileHeader, rest: &[u8], number: u64) -> Result<Option<Sli
         Some(slip) => Ok(Some(slip)),
         None => Err(JournalFault::Damaged(number)),
     }
-}
-
-/// Looks whether bytes begin as the file of a study does, and says why not.
-fn check_header(study: &FileHeader, bytes: &[u8]) -> Result<(), JournalFault>
-    ensures checked { OnOk result (IsOfPlan study.now bytes.now) }
-    ensures err { IfErr result (λ fault. reading study.now bytes.now ≡ Err fault) }
-{
-    if !is_study(bytes) {
-        return Err(JournalFault::NoStudy);
-    }
-    if !has_header(bytes) {
-        return Err(JournalFault::Damaged(0));
-    }
-    if bytes.len() <= study.prefix().len() {
-        return Err(JournalFault::OtherPlan);
-    }
-    if !study.says_plan(bytes) {
-        return Err(JournalFault::OtherPlan);
-    }
-    if !study.has_magic(bytes) {
-        return Err(JournalFault::Damaged(0));
-    }
-    Ok(())
 }

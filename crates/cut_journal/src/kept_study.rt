@@ -1,22 +1,22 @@
-ghost use Rattle.std.specs.Prelude.{◌≡◌, ◌+◌, ◌<◌, ◌≤◌, ◌^◌, Some, None, if◌then◌else◌, bytes_eq, slice_range};
-ghost use Rattle.std.specs.Prelude.{true, length, IfOk, IfErr, IfSome, OnOk};
-ghost use Rattle.cut_plan.specs.declared.limits.TheConstants.{LONGEST_TEXT};
-ghost use Rattle.cut_faults.specs.Failures.{counted};
-ghost use Rattle.sha2.specs.Sha256.{sha256};
+ghost use Rattle.std.specs.Prelude.{◌≡◌, ◌≤◌, ◌<◌, ◌^◌, length, slice_range, IfOk, IfErr};
 ghost use Rattle.cut_disks.specs.Log.{Goes, Knows, Shows};
-ghost use Rattle.cut_journal.specs.Reading.{is_study, can_have_header, has_header, text_length};
 ghost use Rattle.cut_journal.specs.Journal.{disk_faults};
 ghost use Rattle.cut_journal.specs.Opening.{IsOpeningFaultOf};
 ghost use Rattle.cut_journal.specs.inside.Opening.{IsReadFault};
-ghost use Rattle.cut_journal.specs.inside.Steps.{Finds, IsChecked};
+ghost use Rattle.cut_journal.specs.inside.Steps.{Finds, head_in};
 ghost use Rattle.cut_journal.specs.inside.Places.{gate_place};
 
+use crate::JournalFault;
+use crate::first_bytes::check_head;
 use crate::first_look::look_first;
-use crate::format::{FileHeader, digest_of};
+use crate::format::FileHeader;
 use crate::slips::{BegunFile, Slips, read_slips};
-use crate::{JournalFault, layout};
-use cut_disks::{Disk, DiskFault};
+use cut_disks::Disk;
+use cut_plan::LONGEST_TEXT;
 use std::alloc::Global;
+
+/// The most bytes that the file of a study has up to the gate of its first slip, and this gate.
+const LONGEST_HEAD: usize = LONGEST_TEXT + 46;
 
 /// The slips of a study that a disk holds, and why there are none.
 pub(crate) fn find_study<D: Disk>(
@@ -30,6 +30,7 @@ pub(crate) fn find_study<D: Disk>(
     ensures place { IfOk result (λ found. found.gate.place ≡ gate_place study.now found.gate.number) }
     ensures bound { IfOk result (λ found. found.gate.place < 2 ^ 63) }
 {
+    study.is_short();
     let shown = match look_first(disk) {
         Ok(shown) => shown,
         Err(_) => return Err(JournalFault::Disk),
@@ -37,12 +38,11 @@ pub(crate) fn find_study<D: Disk>(
     if !shown.is_study {
         return Err(JournalFault::NoStudy);
     }
-    match has_header(alloc, disk, shown.length) {
-        Ok(true) => {}
-        Ok(false) => return Err(JournalFault::Damaged(0)),
+    let head = match read_head(alloc, disk, shown.length) {
+        Ok(head) => head,
         Err(fault) => return Err(fault),
-    }
-    match check_prefix(alloc, disk, study, shown.length) {
+    };
+    match check_head(study, head.as_slice()) {
         Ok(()) => {
             let file = BegunFile {
                 study,
@@ -54,32 +54,17 @@ pub(crate) fn find_study<D: Disk>(
     }
 }
 
-/// Looks whether a disk of this length, which begins with a whole header, begins as the file of a study
-/// does, and says why not.
-fn check_prefix<D: Disk>(
-    alloc: Global,
-    disk: &mut D,
-    study: &FileHeader,
-    size: u64,
-) -> Result<(), JournalFault>
-    requires { Knows (D.log disk.old) (λ d. (size ≡ length d.bytes)
-        × (is_study d.bytes ≡ true) × (has_header d.bytes ≡ true)) }
-    ensures checks { Goes (disk_faults result) (Shows (IsChecked result study.now)) (D.log disk.old) (D.log disk.new) }
-    ensures within { OnOk result (gate_place study.now 0 < size) }
-    ensures may { IfErr result IsOpeningFaultOf }
+/// Reads the first bytes of a disk of this length at once: as many as the head of a study's file may have.
+fn read_head<D: Disk>(alloc: Global, disk: &mut D, size: u64) -> Result<Vec<u8>, JournalFault>
+    requires { Knows (D.log disk.old) (λ d. size ≡ length d.bytes) }
+    ensures reads { Goes (disk_faults result)
+        (Shows (λ bytes. IfOk result (λ head. head.items ≡ head_in bytes)))
+        (D.log disk.old) (D.log disk.new) }
+    ensures within { IfOk result (λ head. length head.items ≤ size) }
+    ensures fault { IfErr result IsReadFault }
 {
-    let length = study.prefix().len();
-    if size <= length as u64 {
-        return Err(JournalFault::OtherPlan);
-    }
-    let prefix = read_prefix(alloc, disk, length)?;
-    if !study.says_plan(&prefix) {
-        return Err(JournalFault::OtherPlan);
-    }
-    if !study.has_magic(&prefix) {
-        return Err(JournalFault::Damaged(0));
-    }
-    Ok(())
+    let count = size.min(LONGEST_HEAD as u64) as usize;
+    read_prefix(alloc, disk, count)
 }
 
 /// Reads the first `count` bytes of a disk.
@@ -99,59 +84,4 @@ fn read_prefix<D: Disk>(alloc: Global, disk: &mut D, count: usize) -> Result<Vec
         Ok(()) => Ok(prefix),
         Err(_) => Err(JournalFault::Disk),
     }
-}
-
-/// Whether a disk of this length begins with a whole header, of whichever plan.
-fn has_header<D: Disk>(alloc: Global, disk: &mut D, size: u64) -> Result<bool, JournalFault>
-    requires { Knows (D.log disk.old) (λ d. size ≡ length d.bytes) }
-    ensures reads { Goes (disk_faults result) (Shows (λ bytes. IfOk result (λ has. has ≡ has_header bytes)))
-        (D.log disk.old) (D.log disk.new) }
-    ensures fault { IfErr result IsReadFault }
-{
-    let text = match text_length(disk, size) {
-        Ok(Some(text)) => text,
-        Ok(None) => return Ok(false),
-        Err(_) => return Err(JournalFault::Disk),
-    };
-    let mut header = match vec![in alloc; 0; text as usize + 12] {
-        Ok(header) => header,
-        Err(_) => return Err(JournalFault::Memory),
-    };
-    match has_digest(disk, &mut header) {
-        Ok(has) => Ok(has),
-        Err(_) => Err(JournalFault::Disk),
-    }
-}
-
-/// The length of the text in a header, if the header can be whole.
-fn text_length<D: Disk>(disk: &mut D, size: u64) -> Result<Option<u32>, DiskFault>
-    requires { Knows (D.log disk.old) (λ d. size ≡ length d.bytes) }
-    ensures reads { Goes (counted result) (Shows (λ bytes. IfOk result (λ found. found
-        ≡ (if can_have_header bytes then Some (text_length bytes) else None))))
-        (D.log disk.old) (D.log disk.new) }
-    ensures short { IfOk result (λ found. IfSome found (λ text. text ≤ LONGEST_TEXT)) }
-{
-    if size < 13 {
-        return Ok(None);
-    }
-    let mut magic = [0; 8];
-    disk.read(1, &mut magic)?;
-    let mut digits = [0; 4];
-    disk.read(9, &mut digits)?;
-    Ok(layout::text_length(magic, digits, size))
-}
-
-/// Whether the digest of a header that fills these bytes stands after it.
-fn has_digest<D: Disk>(disk: &mut D, header: &mut [u8]) -> Result<bool, DiskFault>
-    requires within { Knows (D.log disk.old) (λ d. length header.old + 33 ≤ length d.bytes) }
-    requires bound { length header.old ≤ 65548 }
-    ensures reads { Goes (counted result) (Shows (λ bytes. IfOk result (λ has. has ≡ bytes_eq
-        (sha256 (slice_range bytes 1 (length header.old + 1)))
-        (slice_range bytes (length header.old + 1) (length header.old + 33)))))
-        (D.log disk.old) (D.log disk.new) }
-{
-    disk.read(1, header)?;
-    let mut digest = [0; 32];
-    disk.read(header.len() as u64 + 1, &mut digest)?;
-    Ok(digest_of(header) == digest)
 }

@@ -122,7 +122,7 @@ fn a_failing_opening(rt: HostRuntime) -> Result<(), Fail> {
     let disk = written(rt.alloc(), &plan)?;
     for fail_at in 1..13 {
         assert!(rt;
-            opening_holds(rt.alloc(), disk.bytes(), &plan, (fail_at, 11, 1))?,
+            opening_holds(rt.alloc(), disk.bytes(), &plan, (fail_at, 7, 1))?,
             "{fail_at}"
         );
     }

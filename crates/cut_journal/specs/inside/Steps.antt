@@ -1,18 +1,19 @@
 -- What the private steps of a journal do to a disk, if it is known what is on it.
-use Rattle.std.specs.Prelude.{◌≡◌, ◌⊎◌, ◌∷◌, ◌++◌, ◌+◌, ◌^◌, ◌<◌, ◌==◌, ℕ, true, false, List, length, Option, Some}
-use Rattle.std.specs.Prelude.{None, Result, Ok, Err, ⊤, Bool, [], slice_index, IfOk, OnOk}
+use Rattle.std.specs.Prelude.{◌≡◌, ◌⊎◌, ◌∷◌, ◌++◌, ◌+◌, ◌^◌, ◌<◌, ◌==◌, ℕ, true, false, List, length, take, Option, Some}
+use Rattle.std.specs.Prelude.{None, Result, Ok, Err, ⊤, Bool, [], not, if◌then◌else◌, slice_index, IfOk, OnOk}
 use Rattle.std.specs.Io.{StartsWith}
 use Rattle.cut_plan.specs.Failing.{version_of}
+use Rattle.cut_plan.specs.declared.limits.TheConstants.{LONGEST_TEXT}
 use Rattle.cut_plan.specs.Values.{Values}
 use Rattle.cut_disks.specs.State.{DiskState, IsImage, IsTorn, Throughout, written, begun, synced, settled}
 use Rattle.cut_ledger.specs.declared.slip.Slip.{Slip}
 use Rattle.cut_journal.specs.declared.fault.JournalFault.{JournalFault}
-use Rattle.cut_journal.specs.declared.fault.JournalFault.TheVariants.{Memory, Disk, Damaged}
+use Rattle.cut_journal.specs.declared.fault.JournalFault.TheVariants.{Memory, Disk, NoStudy, OtherPlan, Damaged}
 use Rattle.cut_journal.specs.declared.first_look.Shown.{Shown}
 use Rattle.cut_journal.specs.declared.slips.Slips.{Slips}
 use Rattle.cut_journal.specs.File.{open_gate, file_of}
 use Rattle.cut_journal.specs.Journal.{ReadsAs, ExtendsFile, kept_slips}
-use Rattle.cut_journal.specs.Opening.{IsNewStudy, IsReopenFault, IsReopened, IsRefused, IsMade, IsNotMade}
+use Rattle.cut_journal.specs.Opening.{IsNewStudy, IsReopened, IsRefused, IsMade, IsNotMade}
 use Rattle.cut_journal.specs.inside.File.{rest_of}
 use Rattle.cut_journal.specs.Reading.{is_study, has_header, says_plan, has_magic, slip_in, body_in, slips_reading}
 use Rattle.cut_journal.specs.Reading.{reading}
@@ -42,6 +43,18 @@ pub record IsOfPlan (v : Values) (bytes : List ℕ) : Type 0 where
   pub header : has_header bytes ≡ true
   pub text : says_plan v bytes ≡ true
   pub letters : has_magic v bytes ≡ true
+
+-- the first bytes, as many as the longest head has, with the gate of a first slip
+unfoldable pub head_in : List ℕ → List ℕ
+head_in bytes = take (LONGEST_TEXT + 46) bytes
+
+-- what the first bytes say of a study of this plan, in the order of a reading: that it is there, or why not
+abbrev pub head_reading : Values → List ℕ → Result ⊤ JournalFault
+head_reading v bytes =
+    if not (is_study bytes) then Err NoStudy
+    else (if not (has_header bytes) then Err (Damaged 0)
+    else (if not (says_plan v bytes) then Err OtherPlan
+    else (if not (has_magic v bytes) then Err (Damaged 0) else Ok tt)))
 
 -- what the next slip is found to be: none after a closed gate, a whole one, or one that is damaged
 abbrev pub IsNext : Result (Option Slip) JournalFault → Values → ℕ → List ℕ → Type 0
@@ -95,11 +108,6 @@ pub record HasNumbers (s : Slip) : Type 0 where
   pub settled : s.totals.settled < 2 ^ 64
 
 -- ---- what the steps leave
-
--- a file that begins as that of a study of this plan does, or why it doesn't
-abbrev pub IsChecked : Result ⊤ JournalFault → Values → List ℕ → Type 0
-IsChecked (Ok done) v bytes = IsOfPlan v bytes
-IsChecked (Err fault) v bytes = IsReopenFault v bytes fault
 
 -- the slips of such a file, or which of them is damaged
 abbrev pub AreRead : Result Slips JournalFault → Values → List ℕ → Type 0

@@ -1,4 +1,4 @@
-use Rattle.std.proofs.Common.{◌≡◌, ℕ, Ok, Err, [], ◌∷◌, sym, subst}
+use Rattle.std.proofs.Common.{ℕ, Err, [], ◌∷◌, sym, subst}
 use Rattle.std.specs.Bool.{⊤}
 use Rattle.std.specs.Prelude.{IsErrOf, IsSome, ◌↔◌}
 use Rattle.cut_journal.specs.declared.fault.JournalFault.TheVariants as journal
