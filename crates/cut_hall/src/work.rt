@@ -9,8 +9,8 @@ use cut_disks::Disk;
 use cut_outcome::{Piece, PieceResult};
 use cut_plan::Plan;
 use cut_rings::Rings;
-use cut_slots::{CallFault, Drawn, Next, draw_in, next_after, twice};
-use cut_trial::run_piece;
+use cut_slots::{CallFault, Drawn, Next, draw_in, next_after};
+use cut_trial::{run_piece, twice};
 use std::alloc::Global;
 use std::sync::{Mutex, OnceLock, Wait};
 

@@ -30,4 +30,4 @@ pub use not_closed::{Mismatch, NotClosed};
 pub use pass::{Pass, make_passes};
 pub use report::{Report, SlotReport};
 pub use slot::{Asked, CallFault, EndedSlot, Match, Slot};
-pub use turn::{Drawn, Next, draw_in, next_after, twice};
+pub use turn::{Drawn, Next, draw_in, next_after};

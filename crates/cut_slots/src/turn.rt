@@ -1,4 +1,4 @@
-ghost use Rattle.std.specs.Prelude.{◌≡◌, ◌≤◌, Option, MatchOption};
+ghost use Rattle.std.specs.Prelude.{◌≡◌, ◌≤◌};
 ghost use Rattle.cut_board.specs.Names.{board_id, board_of, studies_of, view_of};
 ghost use Rattle.cut_slots.specs.Turn.{next_after, DrawsPiece, TakesDrawn, CountsTrials, CountsAccepted};
 
@@ -137,19 +137,5 @@ pub fn next_after(outcome: Result<(), CallFault>) -> Next
         Err(CallFault::Full) => Next::Nothing,
         Err(CallFault::Refused(BookFault::Checkpoint)) => Next::Study,
         _ => Next::Piece,
-    }
-}
-
-/// The result of an attempt, or of a second one if the first has none.
-pub fn twice<T, F: FnMut() -> Option<T>>(attempt: &mut F) -> Option<T>
-    requires first { F.pre attempt.old }
-    requires second { (given : Option T) (between : F) → F.step attempt.old given between → F.pre between }
-    ensures { (given : Option T) × ((between : F) × (F.step attempt.old given between
-        × MatchOption given (F.step between result attempt.new)
-        (λ value. (result ≡ given) × (attempt.new ≡ between)))) }
-{
-    match attempt() {
-        Some(value) => Some(value),
-        None => attempt(),
     }
 }

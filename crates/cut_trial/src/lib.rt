@@ -6,6 +6,7 @@
 #![tactic(auto)]
 
 mod alerts;
+mod attempts;
 mod ballot;
 mod deliveries;
 mod fault;
@@ -18,6 +19,7 @@ mod trial;
 mod verdict_counts;
 mod verdicts;
 
+pub use attempts::twice;
 pub use ballot::Ballot;
 pub use cut_outcome::{Piece, PieceResult, Totals, Verdict, quorum};
 pub use fault::TrialFault;

@@ -5,7 +5,7 @@ use crate::share::piece_task::PieceTask;
 use cut_outcome::{Gate, Piece, PieceResult};
 use cut_plan::Plan;
 use cut_rings::Rings;
-use cut_trial::run_piece;
+use cut_trial::{run_piece, twice};
 use std::alloc::Global;
 use std::sync::Wait;
 use std::thread;
@@ -59,11 +59,9 @@ impl<G: Gate> ShareEnv<'_, G> {
     fn compute(&self, piece: Piece) -> Option<PieceResult>
         ensures { IfSome result (λ r. r ≡ record { plan = self.now.plan.now; piece = piece }) }
     {
-        for _ in 0..2 {
-            if let Ok(result) = run_piece(self.alloc, self.plan, self.rings, piece) {
-                return Some(result);
-            }
-        }
-        None
+        let mut attempt = || -> Option<PieceResult>
+            ensures { IfSome result (λ r. r ≡ record { plan = self.entry.now.plan.now; piece = piece }) }
+        { run_piece(self.alloc, self.plan, self.rings, piece).ok() };
+        twice(&mut attempt)
     }
 }
