@@ -1,6 +1,6 @@
 -- The slips of pieces, and what is appended of the tasks that run them.
-use Rattle.std.proofs.Common.{◌≡◌, ◌∙◌, ◌<◌, ◌+◌, ◌++◌, ℕ, List, [], ◌∷◌, Some, refl, sym, ap, length, filter, get_or}
-use Rattle.std.proofs.Common.{take, drop, take-append-drop}
+use Rattle.std.proofs.Common.{◌≡◌, ◌<◌, ◌+◌, ◌++◌, ℕ, List, [], ◌∷◌, Some, refl, sym, ap, length, filter, get_or, take}
+use Rattle.std.proofs.Common.{drop, take-append-drop}
 use Rattle.std.proofs.lemmas.List.{map-append, take_more}
 use Rattle.std.proofs.lemmas.List.Elements.{All-map, filter-append}
 use Rattle.cut_lists.proofs.Intervals.{within_is}
@@ -33,12 +33,10 @@ share_slips s v ps own = All-map (IsShareSlip s v) (slip_at v) ps (λ k d low.
 abbrev pub slips_of : Values → List PieceTask → List Slip
 slips_of v tasks = slips_at v (done_of tasks)
 
--- a result is that of its task, and the only slip of it
+-- the slip of a task with a result is that of the result
 pub done_one : (v : Values) (task : PieceTask) (r : Computed) → task.result ≡ Some r → IsRun v task
-    → (r ≡ record { plan = v; piece = task.piece }) × (slips_of v (task ∷ []) ≡ slip_of r ∷ [])
-done_one v task r some run =
-    let is : r ≡ record { plan = v; piece = task.piece } = rw some at run in
-    (is, rw some (ap (λ (x : Computed). slip_of x ∷ []) (sym is)))
+    → slips_of v (task ∷ []) ≡ slip_of r ∷ []
+done_one v task r some run = rw some (ap (λ (x : Computed). slip_of x ∷ []) (sym (rw some at run)))
 
 slips-append : (v : Values) (xs ys : List PieceTask) → slips_of v (xs ++ ys) ≡ slips_of v xs ++ slips_of v ys
 slips-append v xs ys =
@@ -49,16 +47,12 @@ slips-append v xs ys =
     )
 
 -- of tasks one after another: those before, this one, and those after it
-module _ (v : Values) (tasks : List PieceTask) (i : ℕ) (task : PieceTask) (low : i < length tasks)
+module _ (v w : Values) (plan : w ≡ v) (tasks : List PieceTask) (i : ℕ) (task : PieceTask) (low : i < length tasks)
     (is : task ≡ get_or tasks i task) where
-  pub slips_more : slips_of v (take i tasks) ++ slips_of v (task ∷ []) ≡ slips_of v (take (i + 1) tasks)
-  slips_more =
-      sym (slips-append v (take i tasks) (task ∷ [])) ∙ ap (λ x. slips_of v (take i tasks ++ x ∷ [])) is
-      ∙ ap (slips_of v) (sym (take_more tasks i task low))
+  pub slips_more : slips_of v (take i tasks) ++ slips_of w (task ∷ []) ≡ slips_of v (take (i + 1) tasks)
+  slips_more = rw plan (cc (take_more tasks i task low, slips-append v (take i tasks) (task ∷ [])))
 
   pub slips_split : slips_of v tasks
-      ≡ (slips_of v (take i tasks) ++ slips_of v (task ∷ [])) ++ slips_of v (drop (i + 1) tasks)
+      ≡ (slips_of v (take i tasks) ++ slips_of w (task ∷ [])) ++ slips_of v (drop (i + 1) tasks)
   slips_split =
-      ap (slips_of v) (sym (take-append-drop (i + 1) tasks))
-      ∙ slips-append v (take (i + 1) tasks) (drop (i + 1) tasks)
-      ∙ ap (λ ss. ss ++ slips_of v (drop (i + 1) tasks)) (sym slips_more)
+      cc (take-append-drop (i + 1) tasks, slips-append v (take (i + 1) tasks) (drop (i + 1) tasks), slips_more)

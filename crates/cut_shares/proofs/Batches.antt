@@ -2,7 +2,7 @@
 use Rattle.std.proofs.Common.{◌≡◌, ◌∙◌, ◌≤◌, ◌+◌, ◌++◌, ◌&&◌, ◌==◌, ℕ, Bool, true, not, cond, List, [], ◌∷◌, Ok, Err}
 use Rattle.std.proofs.Common.{None, filter, length, refl, sym, ap, arith, append_assoc, append-nil, length-append}
 use Rattle.std.specs.List.{list_all}
-use Rattle.std.proofs.lemmas.List.{length-map, map-append}
+use Rattle.std.proofs.lemmas.List.{length-map, map-append, get_or_append_left}
 use Rattle.std.proofs.lemmas.List.Elements.{All-append, All-head, All-tail}
 use Rattle.std.proofs.lemmas.List.Filters.{sum_by-filter_both}
 use Rattle.cut_lists.proofs.Maps.{count_by-map}
@@ -11,11 +11,16 @@ use Rattle.cut_ledger.proofs.Law.{times-append}
 use Rattle.cut_journal.specs.declared.store_fault.StoreFault.TheVariants.{Broken, Disk}
 use Rattle.cut_journal.proofs.Adding.{adding_stops, all_added}
 use Rattle.cut_shares.proofs.Appends.{pieces_back, share_slips, slips_of}
-use Rattle.cut_shares.proofs.Goods.{All-first}
+use Rattle.cut_shares.proofs.Counting.{of_same}
 use Rattle.cut_shares.proofs.Words.{Adds, All, AreParted, AreWithin, DiskLog, EndsAdding, EndsPieces, IsSharePiece}
 use Rattle.cut_shares.proofs.Words.{IsShareSlip, IsUpTo, IsWhole, JournalValue, Piece, PieceTask, Share, Slip}
 use Rattle.cut_shares.proofs.Words.{StoreFault, Values, done_of, has_result, is_in, lost_of, own_times, pieces_of}
 use Rattle.cut_shares.proofs.Words.{pieces_of_slips, slip_at, slips_at, times_in}
+
+-- what holds of all of a list holds of its first elements
+pub All-first : {X : Type 0} (P : X → Type 0) (xs ys : List X) → All P (xs ++ ys) → All P xs
+All-first P xs ys all k d low =
+    rw (get_or_append_left xs ys d k low) at (all k d (omega (arith, low, length-append xs ys)))
 
 -- ---- the pieces of tasks, with and without a result
 
@@ -47,19 +52,6 @@ whole_more whole done lost tasks before is = grind (arith, all_done tasks, lengt
 -- ---- up to a batch
 
 module _ (s : Share) (v : Values) (all : List Piece) where
-  -- with the pieces of the tasks of one batch more
-  parted_more : (done lost left next : List Piece) (tasks : List PieceTask) → AreParted s v all done lost left
-      → All (IsSharePiece s v) (pieces_of tasks)
-      → ((t : ℕ) → times_in (pieces_of tasks) t + own_times s v next t ≡ own_times s v left t)
-      → AreParted s v all (done ++ done_of tasks) (lost ++ lost_of tasks) next
-  parted_more done lost left next tasks parted own times = record {
-    done_own = All-append (IsSharePiece s v) done (done_of tasks) parted.done_own
-        (own_filtered s v has_result tasks own);
-    lost_own = All-append (IsSharePiece s v) lost (lost_of tasks) parted.lost_own
-        (own_filtered s v (λ x. not (has_result x)) tasks own);
-    times = λ t. omega (arith, parted.times t, times t, times_parted tasks t, times-append);
-  }
-
   -- some trial is in pieces of the share
   pub some_time : (ps : List Piece) → All (IsSharePiece s v) ps → 1 ≤ length ps → (t : ℕ) × (1 ≤ times_in ps t)
   some_time [] own some = absurd (omega arith)
@@ -78,16 +70,6 @@ module _ (s : Share) (v : Values) (all : List Piece) where
       }
 
   module _ {D : Type 0} (log : D → DiskLog) (old : JournalValue D) where
-    -- nothing is done yet
-    pub none_yet : Adds log [] None old old → IsUpTo log true s v all all old old
-    none_yet added = record {
-      done = [];
-      lost = [];
-      parted = grind arith;
-      sufficed = grind arith;
-      kept = added;
-    }
-
     -- the adding of pieces' slips stopped
     pieces_stop : (e : StoreFault) (done : List Piece) (new : JournalValue D) → All (IsSharePiece s v) done
         → ((t : ℕ) → times_in done t ≤ own_times s v all t)
@@ -108,51 +90,78 @@ module _ (s : Share) (v : Values) (all : List Piece) where
     )
     pieces_stop fault done new own times (added, failed, is) = absurd is.1
 
-    -- one batch more
-    module _ (whole : Bool) (left next : List Piece) (tasks : List PieceTask) (mid new : JournalValue D)
-        (before : IsUpTo log whole s v all left old mid) (plan : mid.plan ≡ v)
-        (own : All (IsSharePiece s v) (pieces_of tasks))
-        (times : (t : ℕ) → times_in (pieces_of tasks) t + own_times s v next t ≡ own_times s v left t) where
-      parted : AreParted s v all (before.done ++ done_of tasks) (before.lost ++ lost_of tasks) next
-      parted = parted_more before.done before.lost left next tasks before.parted own times
+-- nothing is done yet
+pub none_yet : {D : Type 0} {log : D → DiskLog} {s : Share} {v : Values} {all : List Piece} {old : JournalValue D}
+    → Adds log [] None old old → IsUpTo log true s v all all old old
+none_yet added = record {
+  done = [];
+  lost = [];
+  parted = grind arith;
+  sufficed = grind arith;
+  kept = added;
+}
 
-      slips_join : slips_at v (before.done ++ done_of tasks)
-          ≡ slips_at v before.done ++ slips_of mid.plan tasks
-      slips_join = rw plan (map-append (slip_at v) before.done (done_of tasks))
+-- one batch more, whose tasks have these pieces
+module _ {D : Type 0} {log : D → DiskLog} {whole : Bool} {s now : Share} {v w : Values} {all left dealt : List Piece}
+    {old mid : JournalValue D} (next : List Piece) (tasks : List PieceTask) (new : JournalValue D)
+    (before : IsUpTo log whole s v all left old mid) (plan : mid.plan ≡ v) (pieces : pieces_of tasks ≡ dealt)
+    (share : now ≡ s) (same : w ≡ v) (own : All (IsSharePiece now w) dealt)
+    (times : (t : ℕ) → times_in dealt t + own_times now w next t ≡ own_times now w left t) where
+  own_pieces : All (IsSharePiece s v) (pieces_of tasks)
+  own_pieces = rw (share, same, ← pieces) at own
 
-      -- its results are kept
-      pub batch_more : (done : Bool) → done ≡ list_all has_result tasks
-          → EndsAdding {T = Bool} log (Ok done) (slips_of mid.plan tasks) mid new
-          → IsUpTo log (whole && done) s v all next old new
-      batch_more done is ends = record {
-        done = before.done ++ done_of tasks;
-        lost = before.lost ++ lost_of tasks;
-        parted = parted;
-        sufficed = whole_more whole done before.lost tasks before.sufficed is;
-        kept = all_added {T = Bool} log done (slips_at v before.done) (slips_of mid.plan tasks)
-            (slips_at v (before.done ++ done_of tasks)) old mid new (sym slips_join) before.kept ends;
-      }
+  parted : AreParted s v all (before.done ++ done_of tasks) (before.lost ++ lost_of tasks) next
+  parted = record {
+    done_own = All-append (IsSharePiece s v) before.done (done_of tasks) before.parted.done_own
+        (own_filtered s v has_result tasks own_pieces);
+    lost_own = All-append (IsSharePiece s v) before.lost (lost_of tasks) before.parted.lost_own
+        (own_filtered s v (λ x. not (has_result x)) tasks own_pieces);
+    times = λ t.
+        (let more = of_same (λ a b. times_in dealt t + own_times a b next t ≡ own_times a b left t) share same
+        (times t) in
+        omega (arith, before.parted.times t, more, ap (λ ps. times_in ps t) pieces, times_parted tasks t, times-append));
+  }
 
-      -- or it ends the run
-      pub batch_stops : (e : StoreFault) → EndsAdding {T = Bool} log (Err e) (slips_of mid.plan tasks) mid new
-          → EndsPieces log (Err e) s v all old new
-      batch_stops e ends =
-          pieces_stop e (before.done ++ done_of tasks) new parted.done_own (λ t. omega (arith, parted.times t))
-          (adding_stops Bool Bool log e (slips_at v before.done) (slips_of mid.plan tasks) []
-          (slips_at v (before.done ++ done_of tasks)) old mid new
-          (slips_join ∙ sym (append-nil (slips_at v before.done ++ slips_of mid.plan tasks))) before.kept ends)
+  slips_join : slips_at v before.done ++ slips_of mid.plan tasks ≡ slips_at v (before.done ++ done_of tasks)
+  slips_join = rw plan (sym (map-append (slip_at v) before.done (done_of tasks)))
 
-    -- nothing is left
-    pub up_to_end : (whole : Bool) (left : List Piece) (new : JournalValue D) → IsUpTo log whole s v all left old new
-        → ((t : ℕ) → own_times s v left t ≡ 0) → IsUpTo log whole s v all [] old new
-    up_to_end whole left new before none = record {
-      done = before.done;
-      lost = before.lost;
-      parted = record {
-        done_own = before.parted.done_own;
-        lost_own = before.parted.lost_own;
-        times = λ t. omega (arith, before.parted.times t, none t);
-      };
-      sufficed = before.sufficed;
-      kept = before.kept;
-    }
+  -- its results are kept
+  pub batch_more : (done : Bool) → done ≡ list_all has_result tasks
+      → EndsAdding {T = Bool} log (Ok done) (slips_of mid.plan tasks) mid new
+      → IsUpTo log (whole && done) s v all next old new
+  batch_more done is ends = record {
+    done = before.done ++ done_of tasks;
+    lost = before.lost ++ lost_of tasks;
+    parted = parted;
+    sufficed = whole_more whole done before.lost tasks before.sufficed is;
+    kept = all_added {T = Bool} log done _ _ _ old mid new slips_join before.kept ends;
+  }
+
+  -- or it ends the run
+  pub batch_stops : (e : StoreFault) → EndsAdding {T = Bool} log (Err e) (slips_of mid.plan tasks) mid new
+      → EndsPieces log (Err e) s v all old new
+  batch_stops e ends =
+      pieces_stop s v all log old e (before.done ++ done_of tasks) new parted.done_own
+      (λ t. omega (arith, parted.times t))
+      (adding_stops Bool Bool log e (slips_at v before.done) (slips_of mid.plan tasks) [] _ old mid new
+      (sym slips_join ∙ sym (append-nil _)) before.kept ends)
+
+-- nothing is left
+pub up_to_end : {D : Type 0} {log : D → DiskLog} {whole : Bool} {s now : Share} {v w : Values} {all left : List Piece}
+    {old new : JournalValue D} → IsUpTo log whole s v all left old new → now ≡ s → w ≡ v
+    → ((t : ℕ) → own_times now w left t ≡ 0) → IsUpTo log whole s v all [] old new
+up_to_end {left = left} before share same none = record {
+  done = before.done;
+  lost = before.lost;
+  parted = record {
+    done_own = before.parted.done_own;
+    lost_own = before.parted.lost_own;
+    times = λ t. omega (
+      arith,
+      before.parted.times t,
+      of_same (λ a b. own_times a b left t ≡ 0) share same (none t),
+    );
+  };
+  sufficed = before.sufficed;
+  kept = before.kept;
+}

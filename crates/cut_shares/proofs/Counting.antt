@@ -1,15 +1,16 @@
 -- How many trials a share has, block by block and cell by cell.
-use Rattle.std.proofs.Common.{◌≡◌, ◌∙◌, ℕ, suc, ◌+◌, ◌-◌, ◌*◌, ◌<◌, ◌≤◌, min, Bool, true, false, length, arith}
+use Rattle.std.proofs.Common.{◌≡◌, ◌∙◌, ℕ, suc, ◌+◌, ◌-◌, ◌*◌, ◌<◌, ◌≤◌, min, Bool, true, false, length, refl, subst, arith}
 use Rattle.std.proofs.Math.Nat.{mul-le-mul_right}
 use Rattle.std.proofs.lemmas.Bool.Decides.{nat_tests}
 use Rattle.std.proofs.lemmas.Grind.{div_ceil_times}
 use Rattle.std.proofs.lemmas.List.FromFn.{length-range_with_len}
 use Rattle.std.proofs.lemmas.List.Sums.{sum_by-append, length-filter, count_by-le-length}
+use Rattle.cut_lists.proofs.Additions.{PassesPart, count_of_more}
 use Rattle.cut_lists.proofs.Ranges.{All-range_with_len, ranges-join}
 use Rattle.cut_lists.proofs.Ranks.{count_by_all, count_by_none}
-use Rattle.cut_shares.proofs.Blocks.{block_at}
-use Rattle.cut_shares.proofs.Words.{Share, Values, all_trials, cells_of, count_by, div_ceil, has_block, if◌then◌else◌}
-use Rattle.cut_shares.proofs.Words.{is_in_share, range_with_len, trial_count, trials_of_share}
+use Rattle.std.proofs.lemmas.Nat.{div-mul-add, mod-mul-add}
+use Rattle.cut_shares.proofs.Words.{Share, Values, all_trials, block_of, cells_of, count_by, div_ceil, has_block}
+use Rattle.cut_shares.proofs.Words.{if◌then◌else◌, is_in_share, range_with_len, trial_count, trials_of_share}
 
 -- two ranges, the second of which begins where the first ends
 pub count_joined : (p : ℕ → Bool) (a m n : ℕ) → count_by p (range_with_len a (m + n))
@@ -27,6 +28,22 @@ count_alike p true a n same =
     count_by_all p (range_with_len a n) (All-range_with_len (λ t. p t ≡ true) a n same) ∙ length-range_with_len a n
 count_alike p false a n same =
     count_by_none p (range_with_len a n) (All-range_with_len (λ t. p t ≡ false) a n same)
+
+-- a test that m numbers of a range pass, and no other
+pub count_part : (p : ℕ → Bool) (low n from m : ℕ) → PassesPart (λ t. false) p low n from m
+    → count_by p (range_with_len low n) ≡ m
+count_part p low n from m part =
+    omega (
+      arith,
+      count_of_more (λ t. false) p low n from m part,
+      count_alike (λ t. false) false low n (λ t _ _. refl),
+    )
+
+-- trial k of block b of cell c
+pub block_at : (size : ℕ) (v : Values) (c b k : ℕ) → k < size → b * size + k < v.repeats
+    → block_of size v (c * v.repeats + (b * size + k)) ≡ c * div_ceil v.repeats size + b
+block_at size v c b k in-block in-cell =
+    grind (arith, div-mul-add, mod-mul-add)
 
 -- a trial of a block is of a share where the block is
 pub in_block : (s : Share) (v : Values) (c b t : ℕ) → c < length (cells_of v) → c * v.repeats + b * s.block_size ≤ t
@@ -71,3 +88,7 @@ count_cell s v c =
 pub count_all : (s : Share) (v : Values) → length (trials_of_share s v)
     ≡ count_by (is_in_share s v) (range_with_len 0 (trial_count v))
 count_all s v = length-filter (is_in_share s v) (all_trials v)
+
+-- what is said of a share and a plan, said of those that are the same
+pub of_same : (P : Share → Values → Type 0) {now s : Share} {w v : Values} → now ≡ s → w ≡ v → P now w → P s v
+of_same P {now} {s} {w} {v} share plan is = subst (λ (x : Share). P x v) share (subst (P now) plan is)

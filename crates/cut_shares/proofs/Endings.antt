@@ -53,24 +53,14 @@ gap_times cover s v ss t =
 
 -- ---- the endings
 
--- what a run over slips begins with
-pub record IsBegun {D : Type 0} (s : Share) (v : Values) (ss : List Slip) (all : List Piece) (old : JournalValue D)
-    : Type 0 where
-  pub can : CanRun v ss old
-  pub lack : (t : ℕ) → own_times s v all t ≡ one_if (is_lacking s v ss t)
-
--- of the gaps over good slips the share has what these slips lack
-pub begun_over : {D : Type 0} (s : Share) (v : Values) (ss : List Slip) (all gaps : List Piece) (log : JournalValue D)
-    → GapsCover → AreGood v ss → log.plan ≡ v → gaps ≡ gaps_of (over_base v ss)
-    → ((t : ℕ) → own_times s v all t ≡ own_times s v gaps t) → IsBegun s v ss all log
-begun_over s v ss all gaps log cover good plan are times = record {
-  can = record { good = good; plan = plan };
-  lack = λ t. times t ∙ ap (λ (l : List Piece). own_times s v l t) are ∙ gap_times cover s v ss t;
-}
-
 is_true : (b : Bool) (n : ℕ) → 1 ≤ n → n ≤ one_if b → IsTrue b
-is_true true n some few = refl
-is_true false n some few = absurd (omega arith)
+is_true b n some few = grind arith
+
+-- the answer of a run of a share with n trials, by how its batches end
+abbrev pub answer_of : ℕ → Result Bool StoreFault → Result ℕ StoreFault
+answer_of n (Ok true) = Ok n
+answer_of n (Ok false) = Err WorkMemory
+answer_of n (Err e) = Err e
 
 module _ {D : Type 0} (log : D → DiskLog) (s : Share) (v : Values) (ss : List Slip) where
   -- the slips of pieces of the share that have only trials that it lacks, each once at most
@@ -84,51 +74,40 @@ module _ {D : Type 0} (log : D → DiskLog) (s : Share) (v : Values) (ss : List 
   still_lacking ps t none lacks =
       grind (arith, list_any-count_by, count_by-map, list_any-append)
 
-  module _ (all : List Piece) (old new : JournalValue D) (begun : IsBegun s v ss all old) where
-    -- all batches are worked off, and no piece is lost
-    pub ends_whole : (n : ℕ) → n ≡ length (trials_of_share s v) → EndsPieces log (Ok true) s v all old new
-        → EndsShare log (Ok n) s v ss old new
-    ends_whole n count upto =
-        let lost = nil_from_length upto.lost (upto.sufficed.none refl) in
-        let times : (t : ℕ) → times_in upto.done t ≡ one_if (is_lacking s v ss t) = λ t.
-        omega (arith, upto.parted.times t, begun.lack t, ap (λ l. times_in l t) lost) in
-        let of = of_share upto.done upto.parted.done_own (λ t. omega (arith, times t)) in
-        let whole : AreWhole s v ss (slips_at v upto.done) = λ t.
-        ap (λ l. times_in l t) (pieces_back v upto.done) ∙ times t in
-        (slips_at v upto.done, None, (upto.kept, (count, begun.can, of, whole, refl)))
-
-    -- or some is lost
-    pub ends_short : EndsPieces log (Ok false) s v all old new → EndsShare log (Err WorkMemory) s v ss old new
-    ends_short upto =
-        let at = some_time s v all upto.lost upto.parted.lost_own (upto.sufficed.some refl) in
-        let t : ℕ = at.0 in
-        let low = at.1 in
-        let sum = upto.parted.times t in
-        let lack = begun.lack t in
-        let of = of_share upto.done upto.parted.done_own
-        (λ i. omega (arith, upto.parted.times i, begun.lack i)) in
-        let lacks = is_true (is_lacking s v ss t) (times_in upto.lost t) low (omega (arith, sum, lack)) in
-        let none : times_in upto.done t ≡ 0 = omega (arith, low, sum, lack, one_if-le (is_lacking s v ss t)) in
-        let left = still_lacking upto.done t none lacks in
-        (slips_at v upto.done, None, (upto.kept, (begun.can, of, (t, left), refl)))
-
-    -- or a fault ended them
-    ends_fault : (e : StoreFault) → EndsPieces log (Err e) s v all old new → EndsShare log (Err e) s v ss old new
-    ends_fault Broken ends =
-        let t : ℕ = ends.2.0 in
-        let lacks = is_true (is_lacking s v ss t) (own_times s v all t) ends.2.1 (omega (arith, begun.lack t)) in
-        ([], None, (ends.0, (begun.can, (t, lacks), ends.1, (refl, refl))))
-    ends_fault Disk (added, slip, ends) =
-        let of : AreOfShare s v ss (added ++ slip ∷ []) = record {
-          each = ends.1.each;
-          once = λ t. omega (arith, ends.1.times t, begun.lack t);
-        } in
-        (added, Some slip, (ends.0, (begun.can, (slip, (of, refl)))))
-    ends_fault fault ends = absurd ends
-
-    pub ends_err : (result : Result ℕ StoreFault) (e : StoreFault) → IsErrAnd result (λ y. y ≡ e)
-        → EndsPieces log (Err e) s v all old new → EndsShare log result s v ss old new
-    ends_err result e is ends = let p = err_from_is_err_and result is in rw (p.1, p.2) (ends_fault e ends)
+  -- the batches end so over pieces that have what the slips lack
+  ends_by : (all : List Piece) (old new : JournalValue D) → CanRun v ss old
+      → ((t : ℕ) → own_times s v all t ≡ one_if (is_lacking s v ss t))
+      → (result : Result Bool StoreFault) → EndsPieces log result s v all old new
+      → EndsShare log (answer_of (length (trials_of_share s v)) result) s v ss old new
+  ends_by all old new can lack (Ok true) upto =
+      let lost = nil_from_length upto.lost (upto.sufficed.none refl) in
+      let times : (t : ℕ) → times_in upto.done t ≡ one_if (is_lacking s v ss t) = λ t.
+      omega (arith, upto.parted.times t, lack t, ap (λ l. times_in l t) lost) in
+      let of = of_share upto.done upto.parted.done_own (λ t. omega (arith, times t)) in
+      let whole : AreWhole s v ss (slips_at v upto.done) = λ t.
+      ap (λ l. times_in l t) (pieces_back v upto.done) ∙ times t in
+      (slips_at v upto.done, None, (upto.kept, (refl, can, of, whole, refl)))
+  ends_by all old new can lack (Ok false) upto =
+      let at = some_time s v all upto.lost upto.parted.lost_own (upto.sufficed.some refl) in
+      let t : ℕ = at.0 in
+      let low = at.1 in
+      let sum = upto.parted.times t in
+      let own = lack t in
+      let of = of_share upto.done upto.parted.done_own (λ i. omega (arith, upto.parted.times i, lack i)) in
+      let lacks = is_true (is_lacking s v ss t) (times_in upto.lost t) low (omega (arith, sum, own)) in
+      let none : times_in upto.done t ≡ 0 = omega (arith, low, sum, own, one_if-le (is_lacking s v ss t)) in
+      (slips_at v upto.done, None, (upto.kept, (can, of, (t, still_lacking upto.done t none lacks), refl)))
+  ends_by all old new can lack (Err Broken) ends =
+      let t : ℕ = ends.2.0 in
+      let lacks = is_true (is_lacking s v ss t) (own_times s v all t) ends.2.1 (omega (arith, lack t)) in
+      ([], None, (ends.0, (can, (t, lacks), ends.1, (refl, refl))))
+  ends_by all old new can lack (Err Disk) (added, slip, ends) =
+      let of : AreOfShare s v ss (added ++ slip ∷ []) = record {
+        each = ends.1.each;
+        once = λ t. omega (arith, ends.1.times t, lack t);
+      } in
+      (added, Some slip, (ends.0, (can, (slip, (of, refl)))))
+  ends_by all old new can lack (Err fault) ends = absurd ends
 
   module _ (old : JournalValue D) (sound : Knows (log old.disk) (IsFileOf old.plan old.count old.doubtful)) where
     -- it does not begin
@@ -144,3 +123,14 @@ module _ {D : Type 0} (log : D → DiskLog) (s : Share) (v : Values) (ss : List 
     -- or the journal is of another plan
     pub ends_other : (old.plan ≡ v → ⊥) → EndsShare log (Err OtherPlan) s v ss old old
     ends_other other = ([], None, (none_added log old sound, (other, (refl, refl))))
+
+-- the batches of the gaps over good slips end so
+pub ends_run : {D : Type 0} {s now : Share} {v w : Values} (log : D → DiskLog) (ss : List Slip) (all gaps : List Piece)
+    (old new : JournalValue D) (result : Result Bool StoreFault) → GapsCover → AreGood v ss → old.plan ≡ v
+    → gaps ≡ gaps_of (over_base v ss) → ((t : ℕ) → own_times s v all t ≡ own_times s v gaps t) → now ≡ s → w ≡ v
+    → EndsPieces log result now w all old new
+    → EndsShare log (answer_of (length (trials_of_share s v)) result) s v ss old new
+ends_run {s = s} {v = v} log ss all gaps old new result cover good same are times share plan ends =
+    ends_by log s v ss all old new (record { good = good; plan = same })
+    (λ t. times t ∙ ap (λ (l : List Piece). own_times s v l t) are ∙ gap_times cover s v ss t) result
+    (rw (share, plan) at ends)

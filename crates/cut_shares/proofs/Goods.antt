@@ -1,32 +1,26 @@
 -- Good slips: each is sound by itself, and no trial is in two of them, in whatever order they stand.
-use Rattle.std.proofs.Common.{◌≡◌, ◌∙◌, ℕ, zero, suc, ◌+◌, ◌-◌, ◌*◌, ◌/◌, ◌<◌, ◌≤◌, Bool, true, false, List, [], ◌∷◌}
-use Rattle.std.proofs.Common.{◌++◌, length, take, drop, cond, get_or, nat_le, sym, ap, subst, arith, take-append-drop}
+use Rattle.std.proofs.Common.{◌≡◌, ◌∙◌, ℕ, zero, suc, ◌+◌, ◌*◌, ◌<◌, ◌≤◌, Bool, true, false, List, [], ◌∷◌, ◌++◌}
+use Rattle.std.proofs.Common.{length, take, drop, cond, get_or, nat_le, sym, ap, arith, take-append-drop}
 use Rattle.std.proofs.Math.Seq.{drop-cons, take-suc}
 use Rattle.std.proofs.lemmas.Bool.{leb-false, leb-true}
 use Rattle.std.proofs.lemmas.Bool.Decides.{nat_tests}
-use Rattle.std.proofs.lemmas.List.{get_or-take, get_or_append_left, length-append, length-take, take_all, take_more}
+use Rattle.std.proofs.lemmas.List.{get_or-take, length-take, take_all}
 use Rattle.std.proofs.lemmas.List.Elements.{All-from_get_or}
 use Rattle.std.proofs.lemmas.List.Folds.{list_any_at}
-use Rattle.std.proofs.lemmas.List.Sorted.{All-permutation, IsNonDecreasingBy-short, IsPermutation-cons}
-use Rattle.std.proofs.lemmas.List.Sorted.{IsPermutation-map, IsPermutation-refl, IsPermutation-insert}
-use Rattle.std.proofs.lemmas.List.Sorted.{IsPermutation-trans, sum_by-IsPermutation}
+use Rattle.std.proofs.lemmas.List.Sorted.{All-permutation, IsNonDecreasingBy-insert, IsNonDecreasingBy-short}
+use Rattle.std.proofs.lemmas.List.Sorted.{IsPermutation-cons, IsPermutation-map, IsPermutation-refl}
+use Rattle.std.proofs.lemmas.List.Sorted.{IsPermutation-insert, IsPermutation-trans, sum_by-IsPermutation}
 use Rattle.std.specs.List.{insert, prefix_len}
-use Rattle.std.proofs.lemmas.List.Edits.{get_or-insert_above, get_or-insert_at, get_or-insert_below, length-insert}
 use Rattle.std.proofs.lemmas.List.Sums.{prefix_len-le-length, prefix_len_passes, prefix_len_stops}
 use Rattle.cut_lists.proofs.Ranges.{none_passing}
 use Rattle.cut_outcome.proofs.Sum.{few_in}
-use Rattle.cut_ledger.proofs.CellLemmas.{few_rings, piece_in_cell}
+use Rattle.cut_ledger.proofs.CellLemmas.{few_rings}
 use Rattle.cut_ledger.proofs.Law.{times_more, times_once}
 use Rattle.cut_ledger.proofs.TrueSlips.{apart_good}
-use Rattle.cut_shares.proofs.Steps.{ComesAfter, Precedes, joined_more}
+use Rattle.cut_shares.proofs.Runs.{Precedes, facts_of}
 use Rattle.cut_shares.proofs.Words.{All, AreAscending, AreGood, ArePossible, IsGood, IsNonDecreasingBy, IsPermutation}
-use Rattle.cut_shares.proofs.Words.{IsPlan, IsSmall, IsTrue, Piece, Slip, Values, cell_at, is_in, is_in_base, is_piece}
-use Rattle.cut_shares.proofs.Words.{joined, each_number, pieces_of_slips, times_in, with_slip}
-
--- what holds of all of a list holds of its first elements
-pub All-first : {X : Type 0} (P : X → Type 0) (xs ys : List X) → All P (xs ++ ys) → All P xs
-All-first P xs ys all k d low =
-    rw (get_or_append_left xs ys d k low) at (all k d (omega (arith, low, length-append xs ys)))
+use Rattle.cut_shares.proofs.Words.{IsPlan, IsSmall, IsTrue, Slip, Values, cell_at, each_number, is_in, is_in_base}
+use Rattle.cut_shares.proofs.Words.{is_piece, pieces_of_slips, times_in}
 
 -- what is read of a list where nothing is
 abbrev pub no_slip : Slip
@@ -66,7 +60,7 @@ first_apart v ss (suc n) t good le =
 pub good_sound : (v : Values) (ss : List Slip) → AreGood v ss → AreSound v ss
 good_sound v ss good = record {
   each = λ k d low. (let is = good k d low low in record { piece = is.piece; possible = is.possible });
-  apart = λ t. subst (λ (xs : List Slip). times_in (pieces_of_slips xs) t ≤ 1) (take_all (length ss) ss (omega arith))
+  apart = λ t. rw (take_all (length ss) ss (omega arith)) at
       (first_apart v ss (length ss) t good (omega arith));
 }
 
@@ -94,16 +88,9 @@ pub record Ascend (v : Values) (ss : List Slip) : Type 0 where
   pub ascend : (i j : ℕ) (d : Slip) → i < j → j < length ss →
       (get_or ss i d).piece.first + (get_or ss i d).piece.count ≤ (get_or ss j d).piece.first
 
-pub ascend_of : (v : Values) (ss : List Slip) → AreAscending v ss → Ascend v ss
-ascend_of v ss are = record { pieces = λ k d low. (are.small k d low).piece; ascend = are.ascend }
-
 -- slips in the order of their first trials
 abbrev InOrder : List Slip → Type 0
 InOrder ss = IsNonDecreasingBy (λ s. s.piece.first) ss
-
--- a plan that has a piece has cells that are not empty
-some_repeats : (v : Values) (p : Piece) → IsTrue (is_piece v p) → 0 < v.repeats
-some_repeats v p piece = grind arith
 
 pub good_ascend : (v : Values) (ss : List Slip) → AreGood v ss → InOrder ss → Ascend v ss
 good_ascend v ss good sorted = record {
@@ -118,7 +105,7 @@ good_ascend v ss good sorted = record {
         length-take j ss,
         list_any_at (λ (s : Slip). is_in s.piece x.piece.first) (take j ss) i d,
         good_apart v (take j ss) x x.piece.first is,
-        piece_in_cell v x.piece (some_repeats v x.piece is.piece) is.piece,
+        facts_of v x.piece is.piece,
       ));
 }
 
@@ -140,49 +127,15 @@ moved_ascending v ss xs plan good moved sorted =
       ascend = (good_ascend v xs (sound_good v xs sound) sorted).ascend;
     }
 
--- the next slip comes after those before it
-pub comes_next : (v : Values) (ss : List Slip) (i : ℕ) (d : Slip) → Ascend v ss → i < length ss
-    → ComesAfter v (take i ss) (get_or ss i d) ((get_or ss i d).piece.first / v.repeats)
-comes_next v ss i d is within =
-    let facts = λ (k : ℕ) (low : k < length ss). (let piece = is.pieces k d low in
-    piece_in_cell v (get_or ss k d).piece (some_repeats v (get_or ss k d).piece piece) piece) in
-    record {
-      facts = facts i within;
-      earlier = All-from_get_or (Precedes (get_or ss i d)) (take i ss) d (λ k low.
-          (let less : k < i = omega (arith, low, length-take i ss) in
-          rw (get_or-take i ss k d less) (record {
-            some = (facts k (omega arith)).some;
-            ends = is.ascend k i d less within;
-          })));
-    }
-
--- the joined slips, once the next one is among them
-pub joined_next : (v : Values) (ss : List Slip) (i : ℕ) (d : Slip) → Ascend v ss → i < length ss
-    → joined v (take (i + 1) ss) ≡ with_slip v (joined v (take i ss)) (get_or ss i d)
-joined_next v ss i d is within =
-    ap (joined v) (take_more ss i d within)
-    ∙ joined_more v (take i ss) (get_or ss i d) ((get_or ss i d).piece.first / v.repeats)
-    (comes_next v ss i d is within)
+-- each comes after those before it
+pub earlier : (v : Values) (ss : List Slip) (i : ℕ) (d : Slip) → Ascend v ss → i < length ss
+    → All (Precedes (get_or ss i d)) (take i ss)
+earlier v ss i d is within = All-from_get_or (Precedes (get_or ss i d)) (take i ss) d (λ k low.
+    (let less : k < i = omega (arith, low, length-take i ss) in
+    rw (get_or-take i ss k d less)
+    (record { some = grind (arith, is.pieces k d (omega arith)); ends = is.ascend k i d less within })))
 
 -- ---- slips in order
-
--- slips in order, and one that is put after those that do not begin later
-put_in_order : (xs : List Slip) (s : Slip) (n : ℕ) → InOrder xs → n ≤ length xs
-    → ((k : ℕ) (d : Slip) → k < n → (get_or xs k d).piece.first ≤ s.piece.first)
-    → ((d : Slip) → n < length xs → s.piece.first < (get_or xs n d).piece.first)
-    → InOrder (insert xs n s)
-put_in_order xs s n sorted few before after i j d le within =
-    let long = length-insert xs n s few in
-    let first : ℕ → ℕ = λ k. (get_or (insert xs n s) k d).piece.first in
-    let below : (k : ℕ) → k < n → first k ≡ (get_or xs k d).piece.first = λ k less.
-    ap (λ (q : Slip). q.piece.first) (get_or-insert_below xs n s d k less few) in
-    let at : first n ≡ s.piece.first = ap (λ (q : Slip). q.piece.first) (get_or-insert_at xs n s d few) in
-    let above : (k : ℕ) → n < k → first k ≡ (get_or xs (k - 1) d).piece.first = λ k more.
-    ap first (let w : k ≡ k - 1 + 1 = omega arith in w)
-    ∙ ap (λ (q : Slip). q.piece.first) (get_or-insert_above xs n s d (k - 1) (omega arith) few) in
-    let low = before i d in
-    let high = after d in
-    grind (arith, below i, below j, above i, above j, sorted i j d, sorted n (j - 1) d, sorted (i - 1) (j - 1) d)
 
 pub in_order : (ss : List Slip) → (xs : List Slip) × (IsPermutation ss xs × InOrder xs)
 in_order [] = ([], (IsPermutation-refl [], IsNonDecreasingBy-short (λ (s : Slip). s.piece.first) [] (omega arith)))
@@ -195,8 +148,8 @@ in_order (s ∷ ss) =
       (
         IsPermutation-trans (s ∷ ss) (s ∷ xs) (insert xs n s) (IsPermutation-cons s ss xs found.1.0)
             (IsPermutation-insert xs n s),
-        put_in_order xs s n found.1.1 (prefix_len-le-length test xs)
+        IsNonDecreasingBy-insert (λ (q : Slip). q.piece.first) xs n s found.1.1 (prefix_len-le-length test xs)
             (λ k d low. leb-true _ _ (prefix_len_passes test xs k d low))
-            (λ d low. leb-false _ _ (prefix_len_stops test xs d low)),
+            (λ k d from low. omega (arith, leb-false _ _ (prefix_len_stops test xs d (omega arith)), found.1.1 n k d from low)),
       ),
     )

@@ -1,32 +1,30 @@
 -- Joined slips have the same trials and the same sums of each cell, are good or true as the slips are, and are apart.
 use Rattle.std.proofs.lemmas.Grind.{common_steps}
 use Rattle.std.proofs.Common.{◌≡◌, ◌∙◌, ℕ, zero, suc, ◌+◌, ◌*◌, ◌/◌, ◌≤◌, ◌==◌, Bool, not, List, [], ◌∷◌, ◌++◌, map}
-use Rattle.std.proofs.Common.{filter, length, take, cond, get_or, refl, sym, ap, subst, arith, nat_lt, IsTrue}
+use Rattle.std.proofs.Common.{filter, length, take, cond, get_or, refl, sym, ap, subst, arith}
 use Rattle.std.proofs.Math.Seq.{take-suc}
 use Rattle.std.proofs.lemmas.Bool.Decides.{nat_tests}
-use Rattle.std.proofs.lemmas.List.{get_or_push, length_push, take_all}
-use Rattle.std.proofs.lemmas.List.Elements.{All-from_recursion, All-nil, All-weaker, recursion_from_All}
+use Rattle.std.proofs.lemmas.List.{take_all}
+use Rattle.std.proofs.lemmas.List.Elements.{All-from_recursion, All-nil, recursion_from_All}
 use Rattle.std.proofs.lemmas.List.Sorted.{All-permutation, list_any-IsPermutation, sum_by-IsPermutation}
 use Rattle.std.proofs.lemmas.List.Sums.{sum_by-append, sum_by_push}
-use Rattle.cut_lists.proofs.Counts.{list_any-count_by}
 use Rattle.cut_lists.proofs.Maps.{count_by-map}
 use Rattle.cut_lists.proofs.Ranges.{ranges-join}
-use Rattle.cut_plan.specs.declared.cell.Cell.{Cell}
 use Rattle.cut_plan.specs.Failing.{version_of}
-use Rattle.cut_outcome.specs.Outcome.{no_cell}
 use Rattle.cut_outcome.proofs.Places.{settled_more}
 use Rattle.cut_ledger.specs.lines.Lines.{header, line_with, table}
 use Rattle.cut_ledger.specs.Laws.{TrueSlipsAreGood, TrueSlipsGiveTheTable}
 use Rattle.cut_ledger.specs.Table.{full_sum, table_over}
-use Rattle.cut_shares.proofs.Goods.{All-first, AreSound, Ascend, IsSound, comes_next, good_ascend, good_sound, in_order}
-use Rattle.cut_shares.proofs.Goods.{sound_good, no_slip, sound_moved}
-use Rattle.cut_shares.proofs.Merges.{Adjoin, with_all, with_apart, with_sum}
-use Rattle.cut_shares.proofs.Steps.{Precedes, joined_more, none_joined}
-use Rattle.cut_shares.proofs.Words.{All, AreApart, AreGood, ArePossible, AreTrue, IsPermutation, IsPlan, IsTrueSlip}
-use Rattle.cut_shares.proofs.Words.{Piece, Slip, Totals, Values, cell_at, cells_of, count_by, each_number, flat_map}
-use Rattle.cut_shares.proofs.Words.{is_in, is_in_base, is_piece, joined, outcome, piece_at, pieces_of_slips, plus}
-use Rattle.cut_shares.proofs.Words.{range_with_len, runs_of, slip_of_run, slip_sum, slips_of_cell, spans, sum_by}
-use Rattle.cut_shares.proofs.Words.{sum_of, times_in, trials_in, trials_of_cell, with_next, with_slip}
+use Rattle.std.specs.Bool.{⊤}
+use Rattle.cut_shares.proofs.Goods.{AreSound, Ascend, IsSound, earlier, good_ascend, good_sound, in_order, sound_good}
+use Rattle.cut_shares.proofs.Goods.{no_slip, sound_moved}
+use Rattle.cut_shares.proofs.Runs.{Adjoin, with_all, with_sum, AreRuns, next_piece, no_runs, rise_apart, runs_joined}
+use Rattle.cut_shares.proofs.Runs.{runs_more, same_trials}
+use Rattle.cut_shares.proofs.Words.{All, AreApart, AreGood, AreTrue, IsPermutation, IsPlan, IsTrueSlip, Piece, Slip}
+use Rattle.cut_shares.proofs.Words.{Totals, Values, cells_of, count_by, each_number, flat_map, is_in, is_in_base}
+use Rattle.cut_shares.proofs.Words.{joined, outcome, piece_at, pieces_of_slips, plus, range_with_len, runs_of}
+use Rattle.cut_shares.proofs.Words.{slip_of_run, slip_sum, slips_of_cell, spans, sum_by, sum_of, times_in, trials_in}
+use Rattle.cut_shares.proofs.Words.{trials_of_cell, with_next, with_slip}
 
 -- ---- the same slips in another order
 
@@ -55,24 +53,37 @@ joined_moved v ss xs moved =
 -- what holds of no slips, and stays where one of which Q holds comes after others, holds of the slips, in some order,
 -- and of the joined ones
 by_slips : (v : Values) (Q : Slip → Type 0) (P : List Slip → List Slip → Type 0) → P [] []
-    → ((pre js : List Slip) (x : Slip) → All (Precedes x) pre → Q x → P pre js → P (pre ++ x ∷ []) (with_slip v js x))
-    → (ss : List Slip) → AreSound v ss → All Q ss → (xs : List Slip) × (IsPermutation ss xs × P xs (joined v ss))
+    → ((pre js : List Slip) (x : Slip) → Q x → P pre js → P (pre ++ x ∷ []) (with_slip v js x))
+    → (ss : List Slip) → AreSound v ss → All Q ss
+    → (xs : List Slip) × (IsPermutation ss xs × (AreRuns v xs (joined v ss) × P xs (joined v ss)))
 by_slips v Q P none more ss sound all =
     let found = in_order ss in
     let xs : List Slip = found.0 in
     let moved : IsPermutation ss xs = found.1.0 in
     let is = good_ascend v xs (sound_good v xs (sound_moved v ss xs moved sound)) found.1.1 in
-    let whole = go xs is (All-permutation Q ss xs moved all) (length xs) (omega arith) in
-    (xs, (moved, rw (← joined_moved v ss xs moved) (rw (take_all (length xs) xs (omega arith)) at whole)))
+    let made = go xs is (All-permutation Q ss xs moved all) (length xs) (omega arith) in
+    let runs = rw (take_all (length xs) xs (omega arith)) at made.1 in (
+      xs,
+      (
+        moved,
+        subst (λ js. AreRuns v xs js × P xs js)
+            (sym (runs_joined v xs made.0 runs.0) ∙ joined_moved v ss xs moved) runs,
+      ),
+    )
   where
     go : (xs : List Slip) → Ascend v xs → All Q xs → (n : ℕ) → n ≤ length xs
-        → P (take n xs) (joined v (take n xs))
-    go xs is each zero le = rw (none_joined v) none
+        → (js : List Slip) × (AreRuns v (take n xs) js × P (take n xs) js)
+    go xs is each zero le = ([], (no_runs v, none))
     go xs is each (suc n) le =
-        let comes = comes_next v xs n no_slip is (omega arith) in
-        rw (take-suc xs n no_slip (omega arith), joined_more v (take n xs) (get_or xs n no_slip) _ comes)
-        (more (take n xs) (joined v (take n xs)) (get_or xs n no_slip) comes.earlier (each n no_slip (omega arith))
-        (go xs is each n (omega arith)))
+        let x : Slip = get_or xs n no_slip in
+        let before = go xs is each n (omega arith) in (
+          with_slip v before.0 x,
+          rw (take-suc xs n no_slip (omega arith)) (
+            runs_more v (take n xs) x (earlier v xs n no_slip is (omega arith)) before.0 (is.pieces n no_slip (omega arith))
+                before.1.0,
+            more (take n xs) before.0 x (each n no_slip (omega arith)) before.1.1,
+          ),
+        )
 
 module _ (v : Values) (ss : List Slip) (sound : AreSound v ss) where
   -- what holds of all slips, if it holds of two that are merged
@@ -80,16 +91,17 @@ module _ (v : Values) (ss : List Slip) (sound : AreSound v ss) where
       → All Q (joined v ss)
   joined_all Q merged all =
       (by_slips v Q (λ pre js. All Q js) (All-nil Q)
-      (λ pre js x _ own each. with_all v x Q (λ s is one. merged s x is one own) own js each) ss sound all).1.1
+      (λ pre js x own each. with_all v x Q Q (λ s is. is) (λ s is one. merged s x is one own) own js each) ss sound
+      all).1.1.1
 
   -- a sum over all slips, if two that are merged have the sum of both
   joined_sum : (w : Slip → ℕ) → ((s x : Slip) → Adjoin v s x → w (with_next s x) ≡ w s + w x)
       → sum_by w (joined v ss) ≡ sum_by w ss
   joined_sum w merged =
       let found = by_slips v (IsSound v) (λ pre js. sum_by w js ≡ sum_by w pre) refl
-      (λ pre js x _ _ is. with_sum v x w (λ s. merged s x) js ∙ ap (λ n. n + w x) is ∙ sym (sum_by_push w pre x)) ss
+      (λ pre js x _ is. with_sum v x w (λ s. merged s x) js ∙ ap (λ n. n + w x) is ∙ sym (sum_by_push w pre x)) ss
       sound sound.each in
-      found.1.1 ∙ sum_by-IsPermutation w ss found.0 found.1.0
+      found.1.1.1 ∙ sum_by-IsPermutation w ss found.0 found.1.0
 
   -- ---- their trials
 
@@ -102,29 +114,19 @@ module _ (v : Values) (ss : List Slip) (sound : AreSound v ss) where
       count_by-map (λ p. is_in p t) (λ (s : Slip). s.piece) (joined v ss) ∙ joined_count t
       ∙ sym (count_by-map (λ p. is_in p t) (λ (s : Slip). s.piece) ss)
 
-  pub same_trials : (t : ℕ) → is_in_base (joined v ss) t ≡ is_in_base ss t
-  same_trials t =
-      list_any-count_by (λ (s : Slip). is_in s.piece t) (joined v ss) ∙ ap (nat_lt 0) (joined_count t)
-      ∙ sym (list_any-count_by (λ (s : Slip). is_in s.piece t) ss)
+  pub joined_trials : (t : ℕ) → is_in_base (joined v ss) t ≡ is_in_base ss t
+  joined_trials t = same_trials (joined v ss) ss t (joined_count t)
+
+  pub joined_apart : AreApart v (joined v ss)
+  joined_apart = rise_apart v 0 (joined v ss)
+      (by_slips v (IsSound v) (λ _ _. ⊤) tt (λ _ _ _ _ _. tt) ss sound sound.each).1.1.0.rise
 
 -- ---- they are good
-
--- a piece with one that goes on where it ends
-next_piece : (v : Values) (s x : Slip) → Adjoin v s x → IsTrue (is_piece v s.piece)
-    → IsTrue (is_piece v x.piece) → IsTrue (is_piece v (with_next s x).piece)
-next_piece v s x is one other = grind arith
-
--- the sums of trials of one cell, added up
-possible_more : (v : Values) (c : Cell) (m n : ℕ) (x y : Totals) → ArePossible v c m x → ArePossible v c n y
-    → ArePossible v c (m + n) (plus x y)
-possible_more v c m n x y one other =
-    grind (arith, settled_more)
 
 sound_next : (v : Values) (s x : Slip) → Adjoin v s x → IsSound v s → IsSound v x → IsSound v (with_next s x)
 sound_next v s x is one other = record {
   piece = next_piece v s x is one.piece other.piece;
-  possible = possible_more v (cell_at v s.piece.first) s.piece.count x.piece.count s.totals x.totals one.possible
-      (subst (λ c. ArePossible v (get_or (cells_of v) c no_cell) x.piece.count x.totals) (sym is.cell) other.possible);
+  possible = grind (arith, settled_more, is.cell, one.possible, other.possible);
 }
 
 joined_sound : (v : Values) (ss : List Slip) → AreSound v ss → AreSound v (joined v ss)
@@ -159,49 +161,34 @@ joined_true good v ss plan are =
       apart = λ t. rw (joined_times v ss sound t) (are.apart t);
     }
 
--- ---- they are apart
-
-pub joined_apart : (v : Values) (ss : List Slip) → AreSound v ss → AreApart v (joined v ss)
-joined_apart v ss sound =
-    (by_slips v (IsSound v) (λ pre js. AreApart v js × ((y : Slip) → All (Precedes y) pre → All (Precedes y) js))
-    ((λ i d within. absurd (omega (arith, within))), λ y all. all)
-    (λ pre js x before own is. (
-      with_apart v x js (All-weaker (Precedes x) _ (λ s last. last.ends) js (is.1 x before)) is.0,
-      λ y all. (let own : Precedes y x = rw (get_or_push pre x x (length pre) refl) at
-          (all (length pre) x (omega (arith, length_push pre x))) in
-          with_all v x (Precedes y) (λ s adjoin one. grind (arith, adjoin, one, own)) own js
-          (is.1 y (All-first (Precedes y) pre (x ∷ []) all))),
-    )) ss sound sound.each).1.1.0
-
 -- ---- sums of a cell
-
--- the totals of slips, added up, are those of others if each number is, of which it is known that it is added up
-same_sums : (xs ys : List Slip) → ((n : Totals → ℕ) → ((a b : Totals) → n (plus a b) ≡ n a + n b)
-    → sum_by (λ (s : Slip). n s.totals) xs ≡ sum_by (λ (s : Slip). n s.totals) ys) → slip_sum xs ≡ slip_sum ys
-same_sums xs ys same =
-    let receivers = same (λ x. x.receivers) (λ a b. refl) in
-    let conflicts = same (λ x. x.conflicts) (λ a b. refl) in
-    let silent = same (λ x. x.silent) (λ a b. refl) in
-    let extra = same (λ x. x.extra) (λ a b. refl) in
-    let votes = same (λ x. x.votes) (λ a b. refl) in
-    let decided = same (λ x. x.decided) (λ a b. refl) in
-    let right = same (λ x. x.right) (λ a b. refl) in
-    let settled = same (λ x. x.settled) (λ a b. refl) in
-    cc
 
 -- the totals of a cell's slips, added up, stay
 cell_slips : (v : Values) (ss : List Slip) (c : ℕ) → AreSound v ss
     → slip_sum (slips_of_cell v (joined v ss) c) ≡ slip_sum (slips_of_cell v ss c)
-cell_slips v ss c sound = same_sums (slips_of_cell v (joined v ss) c) (slips_of_cell v ss c) (λ n adds.
-    sum_filter (λ (s : Slip). n s.totals) (λ s. s.piece.first / v.repeats == c) (joined v ss)
-    ∙ joined_sum v ss sound (λ s. cond (s.piece.first / v.repeats == c) (n s.totals) 0)
+cell_slips v ss c sound =
+    let here : Slip → Bool = λ s. s.piece.first / v.repeats == c in
+    let same : (n : Totals → ℕ) → ((a b : Totals) → n (plus a b) ≡ n a + n b)
+    → sum_by (λ s. n s.totals) (filter here (joined v ss)) ≡ sum_by (λ s. n s.totals) (filter here ss) = λ n adds.
+    sum_filter (λ (s : Slip). n s.totals) here (joined v ss)
+    ∙ joined_sum v ss sound (λ s. cond (here s) (n s.totals) 0)
     (λ s x is. grind (arith, nat_tests, is, adds s.totals x.totals))
-    ∙ sym (sum_filter (λ (s : Slip). n s.totals) (λ s. s.piece.first / v.repeats == c) ss))
+    ∙ sym (sum_filter (λ (s : Slip). n s.totals) here ss) in
+    cc (
+      same (λ x. x.receivers) (λ a b. refl),
+      same (λ x. x.conflicts) (λ a b. refl),
+      same (λ x. x.silent) (λ a b. refl),
+      same (λ x. x.extra) (λ a b. refl),
+      same (λ x. x.votes) (λ a b. refl),
+      same (λ x. x.decided) (λ a b. refl),
+      same (λ x. x.right) (λ a b. refl),
+      same (λ x. x.settled) (λ a b. refl),
+    )
 
 -- and so do the sums of each cell
 cell_sums : (v : Values) (ss : List Slip) (c : ℕ) → AreSound v ss → full_sum v (joined v ss) c ≡ full_sum v ss c
 cell_sums v ss c sound =
-    let trials : (t : ℕ) → is_in_base (joined v ss) t ≡ is_in_base ss t = same_trials v ss sound in
+    let trials : (t : ℕ) → is_in_base (joined v ss) t ≡ is_in_base ss t = joined_trials v ss sound in
     ap (λ (x : Totals). plus x (sum_of v (filter (λ t. not (is_in_base (joined v ss) t)) (trials_of_cell v c))))
     (cell_slips v ss c sound)
     ∙ ap (λ (test : ℕ → Bool). plus (slip_sum (slips_of_cell v ss c))

@@ -1,13 +1,9 @@
 pub mod Words
-pub mod Blocks
 pub mod Turns
 pub mod Counting
-pub mod PieceFacts
 pub mod Appends
 pub mod Batches
 pub mod Endings
-pub mod LeftTrials
-pub mod Merges
-pub mod Steps
+pub mod Runs
 pub mod Goods
 pub mod LawsOfJoins

@@ -1,6 +1,6 @@
 -- Shares take turns, so that each trial is in one of them.
-use Rattle.std.proofs.Common.{◌≡◌, ◌∙◌, ℕ, zero, suc, ◌+◌, ◌-◌, ◌%◌, ◌<◌, ◌==◌, Bool, cond, List, refl, ap, arith}
-use Rattle.std.proofs.Common.{nat_lt}
+use Rattle.std.proofs.Common.{◌≡◌, ◌∙◌, ℕ, zero, suc, ◌+◌, ◌-◌, ◌%◌, ◌<◌, ◌==◌, Bool, List, [], ◌∷◌, ◌++◌, add-one}
+use Rattle.std.proofs.Common.{refl, ap, arith}
 use Rattle.std.proofs.Math.Nat.{mod-eq_of_lt, add-mod_right}
 use Rattle.std.proofs.lemmas.Bool.Decides.{nat_tests}
 use Rattle.std.proofs.lemmas.List.Sums.{sum_by_push}
@@ -8,37 +8,27 @@ use Rattle.std.proofs.lemmas.Nat.{mod_below}
 use Rattle.cut_lists.proofs.Parts.{count_first}
 use Rattle.cut_lists.proofs.Ranges.{count_by_agree, range_with_len_more}
 use Rattle.cut_shares.specs.share.Laws.{AreOfOne}
+use Rattle.cut_shares.proofs.Counting.{count_part}
 use Rattle.cut_shares.proofs.Words.{IsTrue, Share, Values, block_of, count_by, has_block, is_in_share, range_with_len}
 use Rattle.cut_shares.proofs.Words.{trial_count}
 
 -- ---- as many numbers in a row as there are remainders
 
--- a number is once in a range that has it
-once_in_range : (a n t : ℕ)
-    → count_by (λ x. x == t) (range_with_len a n) ≡ cond (nat_lt t (a + n)) (cond (nat_lt t a) 0 1) 0
-once_in_range a zero t = grind (arith, nat_tests)
-once_in_range a (suc n) t =
-    let first = count_first (λ x. x == t) a (range_with_len (a + 1) n) in
-    grind (arith, once_in_range (a + 1) n t)
-
 -- one number further on there are as many of each remainder
 turn : (n r b : ℕ) → count_by (λ k. k % n == r) (range_with_len (b + 1) n)
     ≡ count_by (λ k. k % n == r) (range_with_len b n)
-turn zero r b = refl
-turn (suc n) r b =
-    let has : ℕ → Bool = λ k. k % suc n == r in
+turn n r b =
+    let has : ℕ → Bool = λ k. k % n == r in
     let rest : List ℕ = range_with_len (b + 1) n in
-    let same : cond {A = ℕ} (has (b + suc n)) 1 0 ≡ cond {A = ℕ} (has b) 1 0 =
-    ap (λ m. cond {A = ℕ} (m == r) 1 0) (add-mod_right b (suc n)) in
-    ap (λ k. count_by has (range_with_len (b + 1) k)) (let w : suc n ≡ n + 1 = omega arith in w)
-    ∙ ap (count_by has) (range_with_len_more (b + 1) n (b + suc n) (omega arith))
-    ∙ omega (arith, same, sum_by_push (λ k. cond (has k) 1 0) rest (b + suc n), count_first has b rest)
+    let same : has (b + n) ≡ has b = ap (λ m. m == r) (add-mod_right b n) in
+    let all : b ∷ rest ≡ range_with_len b n ++ (b + n) ∷ [] = rw add-one at (range_with_len_more b n (b + n) refl) in
+    grind (arith, same, ap (count_by has) all, count_first has b rest, sum_by_push)
 
 turns : (n r b : ℕ) → r < n → count_by (λ k. k % n == r) (range_with_len b n) ≡ 1
 turns n r zero low =
     count_by_agree (λ k. k % n == r) (λ k. k == r) 0 n
     (record { same = λ k from below. ap (λ m. m == r) (mod-eq_of_lt {n = k} {m = n} (omega arith)) })
-    ∙ once_in_range 0 n r ∙ grind (arith, nat_tests)
+    ∙ count_part (λ k. k == r) 0 n r 1 (grind (arith, nat_tests))
 turns n r (suc b) low =
     grind (arith, turn n r b, turns n r b low)
 

@@ -1,10 +1,9 @@
 -- The words of definitions that most proofs here cite, passed on from one place. Declares nothing.
 pub use Rattle.std.specs.Prelude.{All, IsTrue, if◌then◌else◌}
-pub use Rattle.std.specs.List.{count_by, flat_map, list_any, range_with_len, sum_by}
+pub use Rattle.std.specs.List.{count_by, flat_map, range_with_len, sum_by}
 pub use Rattle.std.specs.List.Sorted.{IsNonDecreasingBy, IsPermutation}
 pub use Rattle.std.specs.Int.{div_ceil}
-pub use Rattle.cut_sets.specs.declared.ranges.span.Span.{Span}
-pub use Rattle.cut_sets.specs.ranges.Spans.{span_between, spans}
+pub use Rattle.cut_sets.specs.ranges.Spans.{spans}
 pub use Rattle.cut_plan.specs.Cells.{cells_of, trial_count}
 pub use Rattle.cut_plan.specs.Plan.{IsPlan}
 pub use Rattle.cut_plan.specs.Values.{Values}
@@ -24,10 +23,10 @@ pub use Rattle.cut_journal.specs.Adding.{Adds, EndsAdding}
 pub use Rattle.cut_journal.specs.Journal.{JournalValue}
 pub use Rattle.cut_journal.specs.declared.store_fault.StoreFault.{StoreFault}
 unfoldable pub use Rattle.cut_shares.specs.join.Joined.{joined}
-pub use Rattle.cut_shares.specs.join.Joined.{runs_of, runs_of_cell, slip_of_run, slips_of_run}
+pub use Rattle.cut_shares.specs.join.Joined.{runs_of, slip_of_run, slips_of_run}
 pub use Rattle.cut_shares.specs.join.Laws.{AreApart}
 pub use Rattle.cut_shares.specs.join.inside.Merging.{AreAscending, IsSmall, adjoins, with_next, with_slip}
-pub use Rattle.cut_shares.specs.share.Blocks.{AreNumbered, begins_block, block_of}
+pub use Rattle.cut_shares.specs.share.Blocks.{begins_block, block_of}
 pub use Rattle.cut_shares.specs.share.Running.{AreOfShare, AreWhole, CanRun, EndsShare, is_lacking}
 pub use Rattle.cut_shares.specs.share.Share.{IsShareSlip, has_block, is_in_share, trials_of_share}
 pub use Rattle.cut_shares.specs.share.inside.Batches.{AreParted, AreWithin, EndsPieces, IsUpTo, IsWhole}

@@ -1,6 +1,6 @@
 use Rattle.std.proofs.Common.{rules, ◌≡◌, ◌-◌, ◌∙◌, List, true, set, sym, ap}
 use Rattle.std.proofs.lemmas.List.{get_or_default, nil_from_length}
-use Rattle.cut_shares.proofs.Merges.{with_last}
+use Rattle.cut_shares.proofs.Runs.{with_last}
 use Rattle.cut_shares.proofs.Words.{Slip, adjoins}
 use Rattle.cut_shares.proofs.join.joined.add.Goals.{else-before-gt0-via-then-before-gt0+else-adjoins}
 use Rattle.cut_shares.proofs.join.joined.add.Goals.{else-before-gt0-via-else-before-gt0}

@@ -11,16 +11,14 @@ returns-in_default g c =
     ([], None, (none_added g.D.Disk.log c.args.journal.now c.stays_readable.ensures.sound, (refl, refl)))
 
 pub add-requires : goal.add-requires
-add-requires g c =
-    ap (λ (r : Computed). r.plan)
-    (done_one c.args.journal.now.plan c.args.task.now c.in-Some.result c.in-Some.is c.requires).0
+add-requires g c = ap (λ (r : Computed). r.plan) (rw c.in-Some.is at c.requires)
 
 pub returns-in_err-add : goal.returns-in_err-add
 returns-in_err-add g c =
     let p = err_from_is_err_and c.from_residual.result c.from_residual.ensures.1 in
-    let done = done_one c.args.journal.now.plan c.args.task.now c.in-Some.result c.in-Some.is c.requires in
-    rw (p.1, p.2, done.1) c.in_err-add.ensures
+    let one = done_one c.args.journal.now.plan c.args.task.now c.in-Some.result c.in-Some.is c.requires in
+    rw (p.1, p.2, one) c.in_err-add.ensures
 
 pub returns : goal.returns
 returns g c =
-    rw (done_one c.args.journal.now.plan c.args.task.now c.in-Some.result c.in-Some.is c.requires).1 c.in_ok-add.ensures
+    rw (done_one c.args.journal.now.plan c.args.task.now c.in-Some.result c.in-Some.is c.requires) c.in_ok-add.ensures

@@ -1,18 +1,16 @@
-use Rattle.std.proofs.Common.{◌≡◌, ◌∙◌, ◌+◌, ◌<◌, ◌++◌, ℕ, List, [], ◌∷◌, Option, None, set, take, length, ap, arith}
+use Rattle.std.proofs.Common.{◌≡◌, ◌∙◌, ◌+◌, ◌<◌, ◌++◌, ℕ, List, [], ◌∷◌, Option, None, set, take, length, arith}
 use Rattle.std.proofs.lemmas.List.{map-append, take_more_set}
 use Rattle.std.proofs.lemmas.List.Elements.{All-push}
 use Rattle.cut_ledger.proofs.Law.{times_push}
-use Rattle.cut_shares.proofs.PieceFacts.{of_same}
 use Rattle.cut_shares.proofs.Words.{Computed, IsSharePiece, Piece, PieceTask, is_in, one_if, own_times, pieces_of}
+use Rattle.cut_shares.proofs.Counting.{of_same}
 use Rattle.cut_shares.proofs.share.piece_task.deal_pieces.Goals as goal
 
 -- a task that gets a piece
 dealt : (tasks : List PieceTask) (n : ℕ) (p : Piece) (result : Option Computed) → n < length tasks
     → pieces_of (take (n + 1) (set tasks n (record { piece = p; result = result })))
     ≡ pieces_of (take n tasks) ++ p ∷ []
-dealt tasks n p result low =
-    ap pieces_of (take_more_set tasks n (record { piece = p; result = result }) low)
-    ∙ map-append (λ (x : PieceTask). x.piece) (take n tasks) (record { piece = p; result = result } ∷ [])
+dealt tasks n p result low = grind (arith, take_more_set, map-append)
 
 pub returns-in_default-clause-taken : goal.returns-in_default-clause-taken
 returns-in_default-clause-taken c = λ t.
@@ -45,12 +43,9 @@ loop-count-preserved c =
       share = c.next.ensures.share ∙ held.share;
       own = rw are (All-push (IsSharePiece old.share old.plan.now) (pieces_of (take n tasks)) c.in-Some.piece held.own
           (rw (held.share, held.plan) at step.own));
-      taken = λ t. rw are (omega (
-        arith,
-        times_push (pieces_of (take n tasks)) c.in-Some.piece t,
-        of_same (λ s v. one_if (is_in c.in-Some.piece t) + own_times s v new t ≡ own_times s v mid t) held.share
-            held.plan (step.taken t),
-        held.taken t,
-      ));
-      fewer = (let few = step.fewer in let before = held.fewer in omega (arith, few, before));
+      taken = λ t.
+          (let more = of_same (λ s v. one_if (is_in c.in-Some.piece t) + own_times s v new t ≡ own_times s v mid t)
+          held.share held.plan (step.taken t) in
+          rw are (omega (arith, times_push (pieces_of (take n tasks)) c.in-Some.piece t, more, held.taken t)));
+      fewer = omega (arith, step.fewer, held.fewer);
     }

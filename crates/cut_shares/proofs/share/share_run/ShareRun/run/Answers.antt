@@ -1,8 +1,7 @@
-use Rattle.std.proofs.Common.{◌≡◌, ◌∙◌, ◌∷◌, List, true, false, Ok, Err, refl, sym}
+use Rattle.std.proofs.Common.{◌≡◌, ◌∙◌, ◌∷◌, true, false, Ok, Err, refl, sym}
+use Rattle.std.proofs.lemmas.Result.{err_from_is_err_and}
 use Rattle.cut_journal.specs.declared.store_fault.StoreFault.TheVariants.{Memory}
-use Rattle.cut_shares.proofs.PieceFacts.{of_same}
-use Rattle.cut_shares.proofs.Endings.{begun_over, ends_err, ends_other, ends_short, ends_unbegun, ends_whole}
-use Rattle.cut_shares.proofs.Words.{EndsPieces, Piece}
+use Rattle.cut_shares.proofs.Endings.{ends_other, ends_run, ends_unbegun}
 use Rattle.cut_shares.proofs.share.share_run.ShareRun.run.Goals as goal
 
 pub returns-then-not-same-clause-ends : goal.returns-then-not-same-clause-ends
@@ -31,48 +30,30 @@ returns-in_err-tasks-clause-ends g c =
 
 pub returns-in_err-run_pieces-clause-ends : goal.returns-in_err-run_pieces-clause-ends
 returns-in_err-run_pieces-clause-ends g c =
-    let log = c.args.journal.now in
-    let new = c.run_pieces.new.journal in
-    let run = c.args.self in
     let of = c.of-pieces in
-    let all : List Piece = of.result.rest ∷ of.result.later.now in
-    let e = c.in_err-run_pieces.field-0.0 in
-    ends_err g.D.Disk.log run.share run.plan.now run.slips.now all log new
-    (begun_over run.share run.plan.now run.slips.now all c.deref.result.now log
+    let p = err_from_is_err_and c.from_residual-in_err-run_pieces.result c.from_residual-in_err-run_pieces.ensures.1 in
+    rw (p.1, p.2)
+    (ends_run g.D.Disk.log c.args.self.slips.now (of.result.rest ∷ of.result.later.now) c.deref.result.now
+    c.args.journal.now c.run_pieces.new.journal (Err c.in_err-run_pieces.field-0.0)
     c.gaps_are_what_is_not_held.ensures.gaps c.in_ok-gaps.ensures.good
     (sym c.plan.ensures ∙ c.if-not-same.ensures.values.0 refl) (c.deref.ensures.value ∙ c.in_ok-gaps.ensures.ok)
-    of.ensures.times)
-    c.from_residual-in_err-run_pieces.result e c.from_residual-in_err-run_pieces.ensures.1
-    (of_same (λ s v. EndsPieces g.D.Disk.log (Err e) s v all log new) of.ensures.share of.ensures.plan
-    c.in_err-run_pieces.ensures)
+    of.ensures.times of.ensures.share of.ensures.plan c.in_err-run_pieces.ensures)
 
 pub returns-then-branch-clause-ends : goal.returns-then-branch-clause-ends
 returns-then-branch-clause-ends g c =
-    let log = c.args.journal.now in
-    let new = c.run_pieces.new.journal in
-    let run = c.args.self in
     let of = c.of-pieces in
-    let all : List Piece = of.result.rest ∷ of.result.later.now in
-    ends_whole g.D.Disk.log run.share run.plan.now run.slips.now all log new
-    (begun_over run.share run.plan.now run.slips.now all c.deref.result.now log
-    c.gaps_are_what_is_not_held.ensures.gaps c.in_ok-gaps.ensures.good
-    (sym c.plan.ensures ∙ c.if-not-same.ensures.values.0 refl) (c.deref.ensures.value ∙ c.in_ok-gaps.ensures.ok)
-    of.ensures.times)
-    c.trials-all.result c.trials-all.ensures
-    (of_same (λ s v. EndsPieces g.D.Disk.log (Ok true) s v all log new) of.ensures.share of.ensures.plan
+    rw c.trials-all.ensures
+    (ends_run g.D.Disk.log c.args.self.slips.now (of.result.rest ∷ of.result.later.now) c.deref.result.now
+    c.args.journal.now c.run_pieces.new.journal (Ok true) c.gaps_are_what_is_not_held.ensures.gaps
+    c.in_ok-gaps.ensures.good (sym c.plan.ensures ∙ c.if-not-same.ensures.values.0 refl)
+    (c.deref.ensures.value ∙ c.in_ok-gaps.ensures.ok) of.ensures.times of.ensures.share of.ensures.plan
     (rw c.if-branch.true at c.in_ok-run_pieces.ensures))
 
 pub returns-clause-ends : goal.returns-clause-ends
 returns-clause-ends g c =
-    let log = c.args.journal.now in
-    let new = c.run_pieces.new.journal in
-    let run = c.args.self in
     let of = c.of-pieces in
-    let all : List Piece = of.result.rest ∷ of.result.later.now in
-    ends_short g.D.Disk.log run.share run.plan.now run.slips.now all log new
-    (begun_over run.share run.plan.now run.slips.now all c.deref.result.now log
-    c.gaps_are_what_is_not_held.ensures.gaps c.in_ok-gaps.ensures.good
-    (sym c.plan.ensures ∙ c.if-not-same.ensures.values.0 refl) (c.deref.ensures.value ∙ c.in_ok-gaps.ensures.ok)
-    of.ensures.times)
-    (of_same (λ s v. EndsPieces g.D.Disk.log (Ok false) s v all log new) of.ensures.share of.ensures.plan
-    (rw c.if-branch.false at c.in_ok-run_pieces.ensures))
+    ends_run g.D.Disk.log c.args.self.slips.now (of.result.rest ∷ of.result.later.now) c.deref.result.now
+    c.args.journal.now c.run_pieces.new.journal (Ok false) c.gaps_are_what_is_not_held.ensures.gaps
+    c.in_ok-gaps.ensures.good (sym c.plan.ensures ∙ c.if-not-same.ensures.values.0 refl)
+    (c.deref.ensures.value ∙ c.in_ok-gaps.ensures.ok) of.ensures.times of.ensures.share of.ensures.plan
+    (rw c.if-branch.false at c.in_ok-run_pieces.ensures)
