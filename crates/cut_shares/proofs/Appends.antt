@@ -1,13 +1,13 @@
 -- The slips of pieces, and what is appended of the tasks that run them.
-use Rattle.std.proofs.Common.{◌≡◌, ◌<◌, ◌+◌, ◌++◌, ℕ, List, [], ◌∷◌, Some, refl, sym, ap, length, filter, get_or, take}
-use Rattle.std.proofs.Common.{drop, take-append-drop}
+use Rattle.std.proofs.Common.{◌≡◌, ◌<◌, ◌+◌, ◌++◌, ℕ, List, [], ◌∷◌, Some, refl, sym, ap, length, get_or, take, drop}
+use Rattle.std.proofs.Common.{take-append-drop}
 use Rattle.std.proofs.lemmas.List.{map-append, take_more}
 use Rattle.std.proofs.lemmas.List.Elements.{All-map, filter-append}
 use Rattle.cut_lists.proofs.Intervals.{within_is}
 use Rattle.cut_lists.proofs.Ranges.{All-range_with_len}
 use Rattle.cut_ledger.specs.Machine.{slip_of}
 use Rattle.cut_shares.proofs.Words.{All, Computed, IsRun, IsSharePiece, IsShareSlip, IsTrue, Piece, PieceTask, Share}
-use Rattle.cut_shares.proofs.Words.{Slip, Values, done_of, has_result, is_in_share, pieces_of_slips, slip_at, slips_at}
+use Rattle.cut_shares.proofs.Words.{Slip, Values, done_of, is_in_share, pieces_of_slips, slip_at, slips_at}
 
 -- ---- the slips of pieces
 
@@ -39,12 +39,7 @@ pub done_one : (v : Values) (task : PieceTask) (r : Computed) → task.result �
 done_one v task r some run = rw some (ap (λ (x : Computed). slip_of x ∷ []) (sym (rw some at run)))
 
 slips-append : (v : Values) (xs ys : List PieceTask) → slips_of v (xs ++ ys) ≡ slips_of v xs ++ slips_of v ys
-slips-append v xs ys =
-    rw (
-      filter-append has_result xs ys,
-      map-append (λ (x : PieceTask). x.piece) (filter has_result xs) (filter has_result ys),
-      map-append (slip_at v) (done_of xs) (done_of ys),
-    )
+slips-append v xs ys = simp (filter-append, map-append)
 
 -- of tasks one after another: those before, this one, and those after it
 module _ (v w : Values) (plan : w ≡ v) (tasks : List PieceTask) (i : ℕ) (task : PieceTask) (low : i < length tasks)

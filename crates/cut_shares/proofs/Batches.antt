@@ -79,15 +79,9 @@ module _ (s : Share) (v : Values) (all : List Piece) where
         let at = some_time done own (omega (arith, low, length-map done (slip_at v))) in
         let some = at.1 in
         (rw (is.1.2.0, is.1.2.1) at is.0, is.1.1, (at.0, omega (arith, some, times at.0)))
-    pieces_stop Disk done new own times (added, failed, is) = (
-      added,
-      is.1.0,
-      (
-        rw is.1.2.1 at is.0,
-        within done (added ++ is.1.0 ∷ []) is.1.1 own times
-            (is.1.2.0 ∙ sym (append_assoc added (is.1.0 ∷ []) is.1.1)),
-      ),
-    )
+    pieces_stop Disk done new own times (added, failed, is) =
+        let are = is.1.2.0 ∙ sym (append_assoc added (is.1.0 ∷ []) is.1.1) in
+        (added, is.1.0, (rw is.1.2.1 at is.0, within done (added ++ is.1.0 ∷ []) is.1.1 own times are))
     pieces_stop fault done new own times (added, failed, is) = absurd is.1
 
 -- nothing is done yet
@@ -112,9 +106,8 @@ module _ {D : Type 0} {log : D → DiskLog} {whole : Bool} {s now : Share} {v w 
 
   parted : AreParted s v all (before.done ++ done_of tasks) (before.lost ++ lost_of tasks) next
   parted = record {
-    done_own = All-append (IsSharePiece s v) before.done (done_of tasks) before.parted.done_own
-        (own_filtered s v has_result tasks own_pieces);
-    lost_own = All-append (IsSharePiece s v) before.lost (lost_of tasks) before.parted.lost_own
+    done_own = All-append (IsSharePiece s v) _ _ before.parted.done_own (own_filtered s v has_result tasks own_pieces);
+    lost_own = All-append (IsSharePiece s v) _ _ before.parted.lost_own
         (own_filtered s v (λ x. not (has_result x)) tasks own_pieces);
     times = λ t.
         (let more = of_same (λ a b. times_in dealt t + own_times a b next t ≡ own_times a b left t) share same
@@ -156,11 +149,7 @@ up_to_end {left = left} before share same none = record {
   parted = record {
     done_own = before.parted.done_own;
     lost_own = before.parted.lost_own;
-    times = λ t. omega (
-      arith,
-      before.parted.times t,
-      of_same (λ a b. own_times a b left t ≡ 0) share same (none t),
-    );
+    times = λ t. omega (arith, before.parted.times t, of_same (λ a b. own_times a b left t ≡ 0) share same (none t));
   };
   sufficed = before.sufficed;
   kept = before.kept;

@@ -33,11 +33,8 @@ count_alike p false a n same =
 pub count_part : (p : ℕ → Bool) (low n from m : ℕ) → PassesPart (λ t. false) p low n from m
     → count_by p (range_with_len low n) ≡ m
 count_part p low n from m part =
-    omega (
-      arith,
-      count_of_more (λ t. false) p low n from m part,
-      count_alike (λ t. false) false low n (λ t _ _. refl),
-    )
+    let none = count_alike (λ t. false) false low n (λ t _ _. refl) in
+    omega (arith, none, count_of_more (λ t. false) p low n from m part)
 
 -- trial k of block b of cell c
 pub block_at : (size : ℕ) (v : Values) (c b k : ℕ) → k < size → b * size + k < v.repeats
@@ -75,14 +72,6 @@ block_counted s v c b own old new cell low is before after =
     let block = count_alike (is_in_share s v) (has_block s (c * div_ceil r size + b)) (c * r + b * size) more
     (λ t from below. in_block s v c b t cell from (omega arith) (omega arith)) in
     rw (after, before, is, sum, first, count_joined (is_in_share s v) (c * r) (b * size) more, block)
-
--- one cell more
-pub count_cell : (s : Share) (v : Values) (c : ℕ)
-    → count_by (is_in_share s v) (range_with_len 0 ((c + 1) * v.repeats))
-    ≡ count_by (is_in_share s v) (range_with_len 0 (c * v.repeats))
-    + count_by (is_in_share s v) (range_with_len (c * v.repeats) v.repeats)
-count_cell s v c =
-    grind (arith, count_joined)
 
 -- all cells are the plan
 pub count_all : (s : Share) (v : Values) → length (trials_of_share s v)

@@ -15,8 +15,7 @@ use Rattle.cut_ledger.proofs.CellLemmas.{held_at}
 use Rattle.cut_ledger.proofs.FillLemmas.{count_trials}
 use Rattle.cut_ledger.proofs.Law.{one_if-le}
 use Rattle.cut_journal.specs.Journal.{IsFileOf}
-use Rattle.cut_journal.specs.declared.store_fault.StoreFault.TheVariants.{Memory, OtherPlan, BadSlip, WorkMemory}
-use Rattle.cut_journal.specs.declared.store_fault.StoreFault.TheVariants.{Broken, Disk}
+use Rattle.cut_journal.specs.declared.store_fault.StoreFault.TheVariants.{Memory, BadSlip, WorkMemory, Broken, Disk}
 use Rattle.cut_journal.proofs.Adding.{none_added}
 use Rattle.cut_shares.proofs.Appends.{pieces_back, share_slips}
 use Rattle.cut_shares.proofs.Batches.{some_time}
@@ -119,10 +118,6 @@ module _ {D : Type 0} (log : D → DiskLog) (s : Share) (v : Values) (ss : List 
         by Memory is = ([], None, (none_added log old sound, (plan, (refl, refl))))
         by (BadSlip n) is = ([], None, (none_added log old sound, (plan, is, (refl, refl))))
         by fault is = absurd is
-
-    -- or the journal is of another plan
-    pub ends_other : (old.plan ≡ v → ⊥) → EndsShare log (Err OtherPlan) s v ss old old
-    ends_other other = ([], None, (none_added log old sound, (other, (refl, refl))))
 
 -- the batches of the gaps over good slips end so
 pub ends_run : {D : Type 0} {s now : Share} {v w : Values} (log : D → DiskLog) (ss : List Slip) (all gaps : List Piece)

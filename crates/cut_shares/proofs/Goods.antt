@@ -1,6 +1,6 @@
 -- Good slips: each is sound by itself, and no trial is in two of them, in whatever order they stand.
-use Rattle.std.proofs.Common.{◌≡◌, ◌∙◌, ℕ, zero, suc, ◌+◌, ◌*◌, ◌<◌, ◌≤◌, Bool, true, false, List, [], ◌∷◌, ◌++◌}
-use Rattle.std.proofs.Common.{length, take, drop, cond, get_or, nat_le, sym, ap, arith, take-append-drop}
+use Rattle.std.proofs.Common.{◌≡◌, ℕ, zero, suc, ◌+◌, ◌*◌, ◌<◌, ◌≤◌, Bool, true, false, List, [], ◌∷◌, length, take}
+use Rattle.std.proofs.Common.{drop, cond, get_or, nat_le, arith, take-append-drop}
 use Rattle.std.proofs.Math.Seq.{drop-cons, take-suc}
 use Rattle.std.proofs.lemmas.Bool.{leb-false, leb-true}
 use Rattle.std.proofs.lemmas.Bool.Decides.{nat_tests}
@@ -50,12 +50,9 @@ first_apart v ss zero t good le = omega arith
 first_apart v ss (suc n) t good le =
     let x : Slip = get_or ss n no_slip in
     let pre : List Slip = take n ss in
-    rw (take-suc ss n no_slip (omega arith)) (grind (
-      arith,
-      times_more pre x t,
-      times_once pre t (first_apart v ss n t good (omega arith)),
-      good_apart v pre x t (good n no_slip (omega arith) (omega arith)),
-    ))
+    let once = times_once pre t (first_apart v ss n t good (omega arith)) in
+    let apart = good_apart v pre x t (good n no_slip (omega arith) (omega arith)) in
+    rw (take-suc ss n no_slip (omega arith)) (grind (arith, times_more pre x t, once, apart))
 
 pub good_sound : (v : Values) (ss : List Slip) → AreGood v ss → AreSound v ss
 good_sound v ss good = record {
@@ -66,11 +63,9 @@ good_sound v ss good = record {
 
 pub sound_good : (v : Values) (ss : List Slip) → AreSound v ss → AreGood v ss
 sound_good v ss sound = λ i d low within.
-    (let whole : take i ss ++ get_or ss i d ∷ drop (suc i) ss
-    ≡ ss = ap (λ xs. take i ss ++ xs) (sym (drop-cons ss i d within)) ∙ take-append-drop i ss in
-    let is = sound.each i d within in
+    (let is = sound.each i d within in
     apart_good v (take i ss) (drop (suc i) ss) (get_or ss i d) is.piece is.possible
-    (λ t. rw whole (sound.apart t)))
+    (λ t. rw (← drop-cons ss i d within, take-append-drop i ss) (sound.apart t)))
 
 -- the same slips in another order
 pub sound_moved : (v : Values) (ss xs : List Slip) → IsPermutation ss xs → AreSound v ss → AreSound v xs
@@ -97,16 +92,11 @@ good_ascend v ss good sorted = record {
   pieces = λ k d low. (good k d low low).piece;
   ascend = λ i j d less within. (let x : Slip = get_or ss j d in
       let is = good j d within within in
-      grind (
-        arith,
-        nat_tests,
-        sorted i j d (omega arith) within,
-        get_or-take j ss i d less,
-        length-take j ss,
-        list_any_at (λ (s : Slip). is_in s.piece x.piece.first) (take j ss) i d,
-        good_apart v (take j ss) x x.piece.first is,
-        facts_of v x.piece is.piece,
-      ));
+      let order = sorted i j d (omega arith) within in
+      let at = get_or-take j ss i d less in
+      let here = list_any_at (λ (s : Slip). is_in s.piece x.piece.first) (take j ss) i d in
+      let apart = good_apart v (take j ss) x x.piece.first is in
+      grind (arith, nat_tests, order, at, length-take j ss, here, apart, facts_of v x.piece is.piece));
 }
 
 pub sound_small : (v : Values) (s : Slip) → IsPlan v → IsSound v s → IsSmall v s
@@ -143,13 +133,11 @@ in_order (s ∷ ss) =
     let found = in_order ss in
     let xs : List Slip = found.0 in
     let test : Slip → Bool = λ q. nat_le q.piece.first s.piece.first in
-    let n : ℕ = prefix_len test xs in (
-      insert xs n s,
-      (
-        IsPermutation-trans (s ∷ ss) (s ∷ xs) (insert xs n s) (IsPermutation-cons s ss xs found.1.0)
-            (IsPermutation-insert xs n s),
-        IsNonDecreasingBy-insert (λ (q : Slip). q.piece.first) xs n s found.1.1 (prefix_len-le-length test xs)
-            (λ k d low. leb-true _ _ (prefix_len_passes test xs k d low))
-            (λ k d from low. omega (arith, leb-false _ _ (prefix_len_stops test xs d (omega arith)), found.1.1 n k d from low)),
-      ),
-    )
+    let n : ℕ = prefix_len test xs in
+    let moved = IsPermutation-trans (s ∷ ss) (s ∷ xs) (insert xs n s) (IsPermutation-cons s ss xs found.1.0)
+    (IsPermutation-insert xs n s) in
+    let sorted = IsNonDecreasingBy-insert (λ (q : Slip). q.piece.first) xs n s found.1.1 (prefix_len-le-length test xs)
+    (λ k d low. leb-true _ _ (prefix_len_passes test xs k d low))
+    (λ k d from low. (let stops = leb-false _ _ (prefix_len_stops test xs d (omega arith)) in
+    omega (arith, stops, found.1.1 n k d from low))) in
+    (insert xs n s, (moved, sorted))

@@ -5,7 +5,7 @@ use Rattle.std.proofs.Common.{filter, length, take, cond, get_or, refl, sym, ap,
 use Rattle.std.proofs.Math.Seq.{take-suc}
 use Rattle.std.proofs.lemmas.Bool.Decides.{nat_tests}
 use Rattle.std.proofs.lemmas.List.{take_all}
-use Rattle.std.proofs.lemmas.List.Elements.{All-from_recursion, All-nil, recursion_from_All}
+use Rattle.std.proofs.lemmas.List.Elements.{All-from_recursion, All-nil, recursion_from_All, filter_agree}
 use Rattle.std.proofs.lemmas.List.Sorted.{All-permutation, list_any-IsPermutation, sum_by-IsPermutation}
 use Rattle.std.proofs.lemmas.List.Sums.{sum_by-append, sum_by_push}
 use Rattle.cut_lists.proofs.Maps.{count_by-map}
@@ -23,7 +23,7 @@ use Rattle.cut_shares.proofs.Runs.{runs_more, same_trials}
 use Rattle.cut_shares.proofs.Words.{All, AreApart, AreGood, AreTrue, IsPermutation, IsPlan, IsTrueSlip, Piece, Slip}
 use Rattle.cut_shares.proofs.Words.{Totals, Values, cells_of, count_by, each_number, flat_map, is_in, is_in_base}
 use Rattle.cut_shares.proofs.Words.{joined, outcome, piece_at, pieces_of_slips, plus, range_with_len, runs_of}
-use Rattle.cut_shares.proofs.Words.{slip_of_run, slip_sum, slips_of_cell, spans, sum_by, sum_of, times_in, trials_in}
+use Rattle.cut_shares.proofs.Words.{slip_of_run, slip_sum, slips_of_cell, spans, sum_by, times_in, trials_in}
 use Rattle.cut_shares.proofs.Words.{trials_of_cell, with_next, with_slip}
 
 -- ---- the same slips in another order
@@ -62,28 +62,20 @@ by_slips v Q P none more ss sound all =
     let moved : IsPermutation ss xs = found.1.0 in
     let is = good_ascend v xs (sound_good v xs (sound_moved v ss xs moved sound)) found.1.1 in
     let made = go xs is (All-permutation Q ss xs moved all) (length xs) (omega arith) in
-    let runs = rw (take_all (length xs) xs (omega arith)) at made.1 in (
-      xs,
-      (
-        moved,
-        subst (λ js. AreRuns v xs js × P xs js)
-            (sym (runs_joined v xs made.0 runs.0) ∙ joined_moved v ss xs moved) runs,
-      ),
-    )
+    let runs = rw (take_all (length xs) xs (omega arith)) at made.1 in
+    let same = sym (runs_joined v xs made.0 runs.0) ∙ joined_moved v ss xs moved in
+    (xs, (moved, subst (λ js. AreRuns v xs js × P xs js) same runs))
   where
     go : (xs : List Slip) → Ascend v xs → All Q xs → (n : ℕ) → n ≤ length xs
         → (js : List Slip) × (AreRuns v (take n xs) js × P (take n xs) js)
     go xs is each zero le = ([], (no_runs v, none))
     go xs is each (suc n) le =
         let x : Slip = get_or xs n no_slip in
-        let before = go xs is each n (omega arith) in (
-          with_slip v before.0 x,
-          rw (take-suc xs n no_slip (omega arith)) (
-            runs_more v (take n xs) x (earlier v xs n no_slip is (omega arith)) before.0 (is.pieces n no_slip (omega arith))
-                before.1.0,
-            more (take n xs) before.0 x (each n no_slip (omega arith)) before.1.1,
-          ),
-        )
+        let before = go xs is each n (omega arith) in
+        let runs = runs_more v (take n xs) x (earlier v xs n no_slip is (omega arith)) before.0
+        (is.pieces n no_slip (omega arith)) before.1.0 in
+        let holds = more (take n xs) before.0 x (each n no_slip (omega arith)) before.1.1 in
+        (with_slip v before.0 x, rw (take-suc xs n no_slip (omega arith)) (runs, holds))
 
 module _ (v : Values) (ss : List Slip) (sound : AreSound v ss) where
   -- what holds of all slips, if it holds of two that are merged
@@ -188,11 +180,9 @@ cell_slips v ss c sound =
 -- and so do the sums of each cell
 cell_sums : (v : Values) (ss : List Slip) (c : ℕ) → AreSound v ss → full_sum v (joined v ss) c ≡ full_sum v ss c
 cell_sums v ss c sound =
-    let trials : (t : ℕ) → is_in_base (joined v ss) t ≡ is_in_base ss t = joined_trials v ss sound in
-    ap (λ (x : Totals). plus x (sum_of v (filter (λ t. not (is_in_base (joined v ss) t)) (trials_of_cell v c))))
-    (cell_slips v ss c sound)
-    ∙ ap (λ (test : ℕ → Bool). plus (slip_sum (slips_of_cell v ss c))
-    (sum_of v (filter (λ t. not (test t)) (trials_of_cell v c)))) (λ i t. trials t i)
+    let rest = filter_agree (λ t. not (is_in_base (joined v ss) t)) (λ t. not (is_in_base ss t))
+    (λ t. ap not (joined_trials v ss sound t)) (trials_of_cell v c) in
+    cc (cell_slips v ss c sound, rest)
 
 -- ---- the table
 

@@ -113,13 +113,9 @@ module _ (v : Values) (f : ℕ → Bool) where
       elim (cases_lt end high) [
         | inl inside ↦
             (let next : min (end + 1) high ≡ end + 1 = omega arith in
-            rw (
-              next,
-              spans_step f p.first end (end + 1) high (omega arith) (omega arith) (omega arith) passes
-                  (λ t a b. (let at : t ≡ end = omega arith in rw at (stops inside))),
-              lt-ltb p.first end (omega arith),
-              count,
-            ))
+            let step = spans_step f p.first end (end + 1) high (omega arith) (omega arith) (omega arith) passes
+            (λ t a b. (let at : t ≡ end = omega arith in rw at (stops inside))) in
+            rw (next, step, lt-ltb p.first end (omega arith), count))
         | inr whole ↦
             (let next : min (end + 1) high ≡ high = omega arith in
             let none : high - high ≡ 0 = omega arith in
@@ -177,12 +173,9 @@ runs_are v f (j ∷ js) low d m rise within from cells same =
     let p : Piece = j.piece in
     let r : ℕ = v.repeats in
     let e : ℕ = p.first / r in
+    let end : ℕ = p.first + p.count in
     let le = rise.1 in
     let facts = facts_of v p rise.0 in
-    let some = facts.some in
-    let cell = facts.cell in
-    let starts = facts.starts in
-    let ends = facts.ends in
     let here : d ≤ e + 1 = elim (cases_lt (e + 1) d) [
       | inl past ↦ absurd (omega (arith, mul-le-mul_right r past))
       | inr before ↦ before
@@ -190,13 +183,8 @@ runs_are v f (j ∷ js) low d m rise within from cells same =
     let rest : ℕ = m - (e + 1 - d) in
     reach v f (e + 1 - d) low p.first d (e + 1) m rest (omega arith) (omega arith) within le (omega arith) (omega arith)
     (λ t a b. grind (arith, nat_tests, same t a, none_before v (next_after v p) t js rise.2))
-    ∙ run v f p (e + 1) rest some (omega arith) (λ t a b. grind (arith, nat_tests, same t (omega arith)))
-    (λ inside. grind (
-      arith,
-      nat_tests,
-      same (p.first + p.count) (omega arith),
-      none_before v (next_after v p) (p.first + p.count) js rise.2,
-    ))
+    ∙ run v f p (e + 1) rest facts.some (omega arith) (λ t a b. grind (arith, nat_tests, same t (omega arith)))
+    (λ inside. grind (arith, nat_tests, same end (omega arith), none_before v (next_after v p) end js rise.2))
     ∙ ap (λ ps. p ∷ ps) (runs_are v f js (next_after v p) (e + 1) rest rise.2 (omega arith) (omega arith) (omega arith)
     (λ t a. grind (arith, nat_tests, same t (omega arith))))
 
@@ -253,12 +241,10 @@ rise_more v x low (j ∷ []) rise piece le none =
     grind (arith, nat_tests, after_is v j.piece x.piece rise.0 piece, adjoin_is v j x, next_piece v j x)
 rise_more v x low (j ∷ k ∷ js) rise piece le none =
     let facts = facts_of v k.piece rise.2.0 in
-    let first = none k.piece.first in (
-      rise.0,
-      rise.1,
-      rise_more v x (next_after v j.piece) (k ∷ js) rise.2 piece (grind (arith, nat_tests))
-          (λ t from. grind (arith, none t from)),
-    )
+    let first = none k.piece.first in
+    let rest = rise_more v x (next_after v j.piece) (k ∷ js) rise.2 piece (grind (arith, nat_tests))
+    (λ t from. grind (arith, none t from)) in
+    (rise.0, rise.1, rest)
 
 module _ (v : Values) (ss : List Slip) (x : Slip) (before : All (Precedes x) ss) where
   abbrev more : List Slip
@@ -304,8 +290,7 @@ module _ (v : Values) (ss : List Slip) (x : Slip) (before : All (Precedes x) ss)
             let empty : slips_of_run ss q ≡ [] =
             filter-none (λ s. is_in q s.piece.first) ss (λ k d low. grind (arith, nat_tests)) in
             grind (arith, own_sum x.piece q refl refl (omega arith) some, empty)) js
-            (λ k d low. (
-              are.sums k d low,
-              grind (arith, none x.piece.first, list_any_at (λ (s : Slip). is_in s.piece x.piece.first) js k d low),
-            ));
+            (λ k d low.
+            (let here = list_any_at (λ (s : Slip). is_in s.piece x.piece.first) js k d low in
+            (are.sums k d low, grind (arith, none x.piece.first, here))));
       }

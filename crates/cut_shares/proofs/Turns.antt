@@ -43,8 +43,6 @@ pub one_has : (v : Values) (a : Share) (t : ℕ) → t < trial_count v
 one_has v a t low =
     let block : ℕ = block_of a.block_size v t in
     let bounds = a.bounds in
-    let numbered = bounds.numbered in
-    let within = bounds.within in
     let below : block % a.shares < a.shares = mod_below block a.shares (omega arith) in (
       record { index = block % a.shares + 1; shares = a.shares; block_size = a.block_size; bounds = grind arith },
       (record { shares = refl; block_size = refl }, grind (arith, nat_tests)),

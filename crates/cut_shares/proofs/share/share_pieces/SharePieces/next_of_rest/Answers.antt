@@ -12,17 +12,13 @@ block_taken s now v w p q rest t share plan alike parts = grind arith
 pub returns-then-has-clause-taken : goal.returns-then-has-clause-taken
 returns-then-has-clause-taken c =
     let old = c.loop-self.self in
-    grind (
-      arith,
-      block_taken c.args.self.now.share old.share c.args.self.now.plan.now old.plan.now old.rest
-          c.take_block-piece.result c.take_block-piece.new.self.rest,
-    )
+    let off = block_taken c.args.self.now.share old.share c.args.self.now.plan.now old.plan.now old.rest
+    c.take_block-piece.result c.take_block-piece.new.self.rest in
+    grind (arith, off)
 
 pub loop-self-preserved : goal.loop-self-preserved
 loop-self-preserved c =
     let old = c.loop-self.self in
-    grind (
-      arith,
-      block_taken c.args.self.now.share old.share c.args.self.now.plan.now old.plan.now old.rest
-          c.take_block-piece.result c.take_block-piece.new.self.rest,
-    )
+    let off = block_taken c.args.self.now.share old.share c.args.self.now.plan.now old.plan.now old.rest
+    c.take_block-piece.result c.take_block-piece.new.self.rest in
+    grind (arith, off)

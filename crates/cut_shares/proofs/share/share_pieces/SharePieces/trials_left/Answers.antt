@@ -17,11 +17,8 @@ one_taken : (s : Share) (v : Values) (p : Piece) (old new : List Piece) → IsTr
     → ((t : ℕ) → one_if (is_in p t) + own_times s v new t ≡ own_times s v old t)
     → p.count + own_trials s v new ≡ own_trials s v old
 one_taken s v p old new piece taken =
-    omega (
-      arith,
-      sums_join (λ t. one_if (is_in p t)) (own_times s v new) (own_times s v old) (all_trials v) taken,
-      count_part (is_in p) 0 (trial_count v) p.first p.count (grind (arith, nat_tests)),
-    )
+    let sums = sums_join (λ t. one_if (is_in p t)) (own_times s v new) (own_times s v old) (all_trials v) taken in
+    omega (arith, sums, count_part (is_in p) 0 (trial_count v) p.first p.count (grind (arith, nat_tests)))
 
 -- none is left
 none_left : (s : Share) (v : Values) (ps : List Piece) → ((t : ℕ) → own_times s v ps t ≡ 0) → own_trials s v ps ≡ 0

@@ -1,14 +1,16 @@
-use Rattle.std.proofs.Common.{◌≡◌, ◌∙◌, ◌∷◌, true, false, Ok, Err, refl, sym}
+use Rattle.std.proofs.Common.{◌∙◌, ◌∷◌, true, false, Ok, Err, refl, sym, [], None, rules}
 use Rattle.std.proofs.lemmas.Result.{err_from_is_err_and}
 use Rattle.cut_journal.specs.declared.store_fault.StoreFault.TheVariants.{Memory}
-use Rattle.cut_shares.proofs.Endings.{ends_other, ends_run, ends_unbegun}
+use Rattle.cut_journal.proofs.Adding.{none_added}
+use Rattle.cut_shares.proofs.Endings.{ends_run, ends_unbegun}
 use Rattle.cut_shares.proofs.share.share_run.ShareRun.run.Goals as goal
 
 pub returns-then-not-same-clause-ends : goal.returns-then-not-same-clause-ends
-returns-then-not-same-clause-ends g c =
-    ends_other g.D.Disk.log c.args.self.share c.args.self.plan.now c.args.self.slips.now c.args.journal.now
-    c.stays_readable.ensures.sound
-    (λ same. let bad : false ≡ true = c.if-not-same.ensures.values.1 (c.plan.ensures ∙ same) in cc)
+returns-then-not-same-clause-ends g c = (
+  [],
+  None,
+  (none_added g.D.Disk.log c.args.journal.now c.stays_readable.ensures.sound, (search rules, (refl, refl))),
+)
 
 pub returns-in_err-gaps-clause-ends : goal.returns-in_err-gaps-clause-ends
 returns-in_err-gaps-clause-ends g c =
