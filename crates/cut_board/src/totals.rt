@@ -1,7 +1,5 @@
 //! What was drawn and counted over all seats.
-ghost use Rattle.std.specs.Prelude.{◌≡◌};
-
-use std::marker::Model;
+use cut_lists::Items;
 
 /// What was drawn and counted of a study.
 #[derive(Clone, Copy, Debug, PartialEq, Eq)]
@@ -13,31 +11,4 @@ pub struct StudyTotals {
 }
 
 /// What was drawn and counted, study by study. Contracts see it as the list.
-#[derive(Debug, Drop)]
-pub struct BoardTotals {
-    studies: Vec<StudyTotals>,
-}
-
-impl Model for BoardTotals {
-    ghost use Rattle.std.specs.Prelude.{List};
-    ghost use Rattle.cut_board.specs.declared.totals.StudyTotals.{StudyTotals};
-
-    ghost Value = { List StudyTotals };
-
-    ghost view = { λ t. t.studies.items };
-}
-
-impl BoardTotals {
-    pub(crate) fn from_vec(studies: Vec<StudyTotals>) -> BoardTotals
-        ensures { result ≡ studies.items }
-    {
-        BoardTotals { studies }
-    }
-
-    /// The totals of the studies, in order.
-    pub fn as_slice(&self) -> &[StudyTotals]
-        ensures { result.now ≡ self.now }
-    {
-        self.studies.as_slice()
-    }
-}
+pub type BoardTotals = Items<StudyTotals>;

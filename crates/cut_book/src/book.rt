@@ -345,7 +345,7 @@ impl<D: Disk> Book<D> {
     {
         laws::crashes_are_resumptions();
         if let Some(journal) = &self.journal {
-            journal.stays_readable();
+            laws::journals_stay_readable(journal);
         }
     }
 
@@ -357,7 +357,7 @@ impl<D: Disk> Book<D> {
     {
         laws::crashes_are_resumptions();
         if let Some(journal) = &self.journal {
-            journal.stays_readable();
+            laws::journals_stay_readable(journal);
         }
     }
 

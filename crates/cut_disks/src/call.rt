@@ -1,39 +1,7 @@
-ghost use Rattle.std.specs.Prelude.{◌≡◌, IfOk};
-
-use std::alloc::{AllocError, Global};
-use std::marker::Model;
+use cut_lists::Items;
 
 /// The bytes of a write. Contracts see their list.
-#[derive(Debug, Drop)]
-pub struct Written {
-    bytes: Vec<u8>,
-}
-
-impl Model for Written {
-    ghost use Rattle.std.specs.Prelude.{List, ℕ};
-
-    ghost Value = { List ℕ };
-
-    ghost view = { λ w. w.bytes.items };
-}
-
-impl Written {
-    /// A copy of these bytes.
-    pub(crate) fn copy_of(alloc: Global, bytes: &[u8]) -> Result<Written, AllocError>
-        ensures { IfOk result (λ written. written ≡ bytes.now) }
-    {
-        Ok(Written {
-            bytes: Vec::from_slice(alloc, bytes)?,
-        })
-    }
-
-    /// The bytes as a slice.
-    pub fn as_slice(&self) -> &[u8]
-        ensures { result.now ≡ self.now }
-    {
-        self.bytes.as_slice()
-    }
-}
+pub type Written = Items<u8>;
 
 /// A call of a disk in memory that changed something.
 #[derive(Debug, Drop)]

@@ -173,7 +173,7 @@ fn closed_at_last<M: CallLedger, K: CallLedger>(
 
 /// The accepted trials and the calls of the first slot, and whether its study is complete.
 fn first_slot(report: &Report) -> Option<(u64, u64, bool)> {
-    let slot = report.slots().first()?;
+    let slot = report.as_slice().first()?;
     Some((slot.accepted(), slot.calls(), slot.complete()))
 }
 

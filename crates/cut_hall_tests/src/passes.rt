@@ -10,7 +10,7 @@ use std::test::Fail;
 
 /// The accepted trials and the calls of the only slot, and whether its study is complete.
 fn only_slot(report: &Report) -> Option<(u64, u64, bool)> {
-    let slot = report.slots().first()?;
+    let slot = report.as_slice().first()?;
     Some((slot.accepted(), slot.calls(), slot.complete()))
 }
 

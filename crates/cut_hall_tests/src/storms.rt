@@ -287,7 +287,7 @@ fn slots_of<M: CallLedger, K: CallLedger, R: Wait>(
 /// after a calm storm.
 fn is_right(report: &Report, slots: &[(u32, u64)], is_calm: bool) -> bool {
     slots.iter().all(|(slot, trials)| {
-        match report.slots().get(*slot as usize) {
+        match report.as_slice().get(*slot as usize) {
             Some(slot) if slot.complete() => slot.accepted() == *trials,
             Some(slot) => slot.accepted() < *trials && !is_calm,
             None => false,

@@ -5,7 +5,7 @@ ghost use Rattle.cut_journal.specs.Adding.{EndsAdding};
 ghost use Rattle.cut_journal.specs.File.{HoldsAllTotals};
 ghost use Rattle.cut_journal.specs.inside.Adding.{store_fault_of};
 
-use crate::{Journal, JournalFault, StoreFault};
+use crate::{Journal, JournalFault, StoreFault, laws};
 use cut_disks::Disk;
 use cut_ledger::{Slip, slip_of};
 use cut_outcome::PieceResult;
@@ -30,7 +30,7 @@ impl<D: Disk> Journal<D> {
         requires { All (λ s. HoldsAllTotals (version_of self.old.plan.failing) s.totals) slips.now }
         ensures { EndsAdding D.log result slips.now self.old self.new }
     {
-        self.stays_readable();
+        laws::journals_stay_readable(self);
         for slip in slips {
             self.add_slip(*slip)?;
         }
@@ -42,7 +42,7 @@ impl<D: Disk> Journal<D> {
         requires { HoldsAllTotals (version_of self.old.plan.failing) slip.totals }
         ensures { EndsAdding D.log result (slip ∷ []) self.old self.new }
     {
-        self.stays_readable();
+        laws::journals_stay_readable(self);
         match self.append_slip(slip) {
             Ok(_) => Ok(()),
             Err(fault) => Err(store_fault_of(fault)),

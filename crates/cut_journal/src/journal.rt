@@ -179,15 +179,6 @@ impl<D: Disk> Journal<D> {
         self.study.plan()
     }
 
-    /// A law of every journal, and nothing that is seen: between calls, whatever a crash may leave of a disk that is
-    /// known is read as the slips that are kept, or as these and the doubtful one.
-    pub fn stays_readable(&self)
-        ensures sound { Knows (D.log self.now.disk)
-            (IsFileOf self.now.plan self.now.count self.now.doubtful) }
-    {
-        let _ = self.disk();
-    }
-
     /// The disk. Between calls, whatever a crash may leave of one that is known is read as the slips that
     /// are kept, or as these and the doubtful one.
     pub fn disk(&self) -> &D

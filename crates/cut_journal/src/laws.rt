@@ -1,10 +1,22 @@
 //! What is true of every journal of a run, whatever crash comes. Each function does nothing that is seen, and
 //! its contract is the law.
 
+ghost use Rattle.cut_disks.specs.Log.{Knows};
+ghost use Rattle.cut_journal.specs.Journal.{IsFileOf};
 ghost use Rattle.cut_journal.specs.Laws.{AppendsFollow, CrashesBetweenCalls, CrashesInAppends, OpeningsFollow};
 ghost use Rattle.cut_journal.specs.Laws.{OtherEventsFollow, ResumedSlipsAreGood};
 
+use crate::Journal;
 use cut_disks::Disk;
+
+/// Between calls, whatever a crash may leave of the disk of a journal, if it is known, is read as the slips that are
+/// kept, or as these and the doubtful one.
+pub fn journals_stay_readable<D: Disk>(journal: &Journal<D>)
+    ensures sound { Knows (D.log journal.now.disk)
+        (IsFileOf journal.now.plan journal.now.count journal.now.doubtful) }
+{
+    let _ = journal.disk();
+}
 
 /// A crash is a resumption of the run, as the machine has it: whatever is left of the disk, between two calls
 /// or at any moment of an append, says the slips that the run finds with one choice whether the slip whose

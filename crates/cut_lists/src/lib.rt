@@ -1,4 +1,4 @@
-//! Lemmas on lists that several crates share. The crate has no code: `proofs/` is what it offers, by module:
+//! A list in memory of its own, and lemmas on lists that several crates share: `proofs/` has these, by module:
 //!
 //! - numbers of a range: `Ranges` (tests, counts and filters over them), `Intervals` (tests that all of them
 //!   pass, and their first ones), `Additions` (sums and counts where a part passes that did not), `Firsts`
@@ -10,3 +10,7 @@
 //!   first numbers once), `Ranks` and `RankOrders` (how many come before);
 //! - masks: `Ones` (their bits counted), `BitSets` (lists of them as sets of pairs).
 #![tactic(auto)]
+
+mod items;
+
+pub use items::Items;

@@ -11,9 +11,9 @@ ghost use Rattle.cut_migration.specs.Migration.{EndsMigration};
 ghost use Rattle.cut_migration.specs.inside.Migration.{MovesOne};
 
 use cut_disks::Disk;
-use cut_journal::{Journal, StoreFault};
+use cut_journal::{Journal, StoreFault, laws};
 use cut_ledger::{Ledger, Slip};
-use cut_outcome::{PieceResult, Totals, laws};
+use cut_outcome::{PieceResult, Totals};
 use cut_plan::{Plan, Version};
 use cut_rings::Rings;
 use cut_trial::{TrialFault, run_piece};
@@ -39,7 +39,7 @@ pub fn migrate<D: Disk>(
     ensures version { IsErrOf result StoreFault.NotVersion1 ↔ (version_of plan.now.failing ≡ Two) }
     ensures ends { EndsMigration D.log result plan.now slips.now journal.old journal.new }
 {
-    journal.stays_readable();
+    laws::journals_stay_readable(journal);
     if plan.version() != Version::One {
         return Err(StoreFault::NotVersion1);
     }
@@ -81,7 +81,7 @@ fn move_slips<D: Disk>(
     ensures ends { EndsMigration D.log result target.entry.plan.now slips.now journal.old journal.new }
     ensures version { IsErrOf result StoreFault.NotVersion1 → ⊥ }
 {
-    journal.stays_readable();
+    laws::journals_stay_readable(journal);
     let mut count = 0;
     for slip in slips {
         move_slip(alloc, slip, count + 1, target, journal)?;
@@ -102,7 +102,7 @@ fn move_slip<D: Disk>(
     requires plan { journal.old.plan ≡ upgraded target.plan.now }
     ensures { MovesOne D.log result target.entry.plan.now number slip.now journal.old journal.new }
 {
-    journal.stays_readable();
+    laws::journals_stay_readable(journal);
     let result = match run_piece(alloc, target.upgrade, target.rings, slip.piece) {
         Ok(result) => result,
         Err(TrialFault::Memory) => return Err(StoreFault::Memory),
@@ -122,8 +122,8 @@ fn is_true(slip: &Slip, found: &PieceResult, target: Target<'_>) -> bool
     requires found { found.now ≡ record { plan = target.upgrade.now; piece = slip.now.piece } }
     ensures { IsTrue result ↔ IsTrueSlip target.entry.plan.now slip.now }
 {
-    laws::pieces_have_possible_totals();
-    laws::upgrades_keep_outcomes();
+    cut_outcome::laws::pieces_have_possible_totals();
+    cut_outcome::laws::upgrades_keep_outcomes();
     let unshown = Totals {
         settled: 0,
         ..found.totals()

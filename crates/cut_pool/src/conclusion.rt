@@ -69,7 +69,7 @@ fn conclusion(
 fn is_complete(report: &Report) -> bool
     ensures { result ≡ list_all (λ slot. slot.complete) report.now }
 {
-    report.slots().iter().all(|slot| slot.complete())
+    report.as_slice().iter().all(|slot| slot.complete())
 }
 
 /// What a run answers if a line did not come. Where calls can be counted no further, that is a mismatch of the audit,

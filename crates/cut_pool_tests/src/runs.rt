@@ -70,7 +70,7 @@ pub(crate) struct Ended {
 /// What is reported of a run. No calls are, if it had no slot.
 pub(crate) fn counts_of(answer: Result<Done, RunFault>) -> Result<Counts, RunFault> {
     let done = answer?;
-    let (accepted, calls, complete) = match done.report.slots().first() {
+    let (accepted, calls, complete) = match done.report.as_slice().first() {
         Some(slot) => (slot.accepted(), slot.calls(), slot.complete()),
         None => (0, 0, false),
     };

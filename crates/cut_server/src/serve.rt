@@ -176,7 +176,7 @@ fn accepted(report: &Report) -> u128
     ensures legal { All (λ s. IsEndOf s.history s.complete) report.now }
     ensures few { All (λ s. IsAcceptedCount (accepted_recorded s.history)) report.now }
 {
-    let slots = report.slots();
+    let slots = report.as_slice();
     let mut total = 0;
     for study in 0..slots.len() {
         total += u128::from(slots[study].accepted());

@@ -199,7 +199,7 @@ fn calls_for<R: Threads + Wait + Sync>(
     let wire = FaultyWire::new(alloc, sent, 5000, 5000, 0);
     let none = FaultyWire::new(alloc, Vec::new(alloc), 1, 5000, 0);
     let served = serve_two(rt, alloc, wire, none)?;
-    Ok(served.report.slots().first().map(|slot| slot.calls()))
+    Ok(served.report.as_slice().first().map(|slot| slot.calls()))
 }
 
 #[test]

@@ -72,32 +72,4 @@ impl SlotReport {
 }
 
 /// The end of a hall, slot by slot. Contracts see a list.
-#[derive(Drop)]
-pub struct Report {
-    slots: Vec<SlotReport>,
-}
-
-impl Model for Report {
-    ghost use Rattle.std.specs.Prelude.{List};
-    ghost use Rattle.cut_slots.specs.Report.{SlotEnd};
-
-    ghost Value = { List SlotEnd };
-
-    ghost view = { λ r. r.slots.items };
-}
-
-impl Report {
-    /// The report of these slots, in order.
-    pub fn from_vec(slots: Vec<SlotReport>) -> Report
-        ensures { result ≡ slots.items }
-    {
-        Report { slots }
-    }
-
-    /// The slots, in order.
-    pub fn slots(&self) -> &[SlotReport]
-        ensures { result.now ≡ self.now }
-    {
-        self.slots.as_slice()
-    }
-}
+pub type Report = Items<SlotReport>;

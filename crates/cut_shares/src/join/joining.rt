@@ -2,7 +2,7 @@ ghost use Rattle.cut_shares.specs.join.Joining.{EndsJoin};
 
 use crate::join::joined::joined;
 use cut_disks::Disk;
-use cut_journal::{AcceptedSlips, Journal, StoreFault};
+use cut_journal::{AcceptedSlips, Journal, StoreFault, laws};
 use std::alloc::Global;
 
 /// Appends slips to the journal of their plan, joined: one for each greatest run of adjacent trials of a cell that some
@@ -22,7 +22,7 @@ pub fn join<D: Disk>(
 ) -> Result<u64, StoreFault>
     ensures { EndsJoin D.log result accepted.now.plan accepted.now.slips journal.old journal.new }
 {
-    journal.stays_readable();
+    laws::journals_stay_readable(journal);
     let joined = joined(alloc, accepted)?;
     if !journal.plan().same(accepted.plan()) {
         return Err(StoreFault::OtherPlan);

@@ -5,7 +5,7 @@ ghost use Rattle.cut_shares.specs.share.inside.Tasks.{IsRun, done_of};
 
 use crate::share::piece_task::PieceTask;
 use cut_disks::Disk;
-use cut_journal::{Journal, StoreFault};
+use cut_journal::{Journal, StoreFault, laws};
 use cut_outcome::Gate;
 use std::sync::Wait;
 
@@ -19,7 +19,7 @@ pub(crate) fn append_all<D: Disk, G: Gate, R: Wait>(
     requires { All (IsRun journal.old.plan) tasks.now }
     ensures { EndsAdding D.log result (slips_at journal.old.plan (done_of tasks.now)) journal.old journal.new }
 {
-    journal.stays_readable();
+    laws::journals_stay_readable(journal);
     for task in tasks {
         append(rt, gate, journal, task)?;
     }
@@ -36,7 +36,7 @@ fn append<D: Disk, G: Gate, R: Wait>(
     requires { IsRun journal.old.plan task.now }
     ensures { EndsAdding D.log result (slips_at journal.old.plan (done_of (task.now ∷ []))) journal.old journal.new }
 {
-    journal.stays_readable();
+    laws::journals_stay_readable(journal);
     let Some(result) = &task.result else {
         return Ok(());
     };

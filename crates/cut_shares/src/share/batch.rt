@@ -10,7 +10,7 @@ use crate::share::env::ShareEnv;
 use crate::share::piece_task::{PieceTask, are_done, deal_pieces};
 use crate::share::share_pieces::SharePieces;
 use cut_disks::Disk;
-use cut_journal::{Journal, StoreFault};
+use cut_journal::{Journal, StoreFault, laws};
 use cut_outcome::Gate;
 use std::sync::Wait;
 use std::thread::Threads;
@@ -30,7 +30,7 @@ pub(crate) fn run_pieces<D: Disk, G: Gate + Sync, R: Threads + Wait + Sync>(
     ensures { EndsPieces D.log result pieces.entry.share pieces.entry.plan.now
         (pieces.entry.rest ∷ pieces.entry.later.now) journal.old journal.new }
 {
-    journal.stays_readable();
+    laws::journals_stay_readable(journal);
     let mut pieces = pieces;
     let mut is_whole = true;
     loop {

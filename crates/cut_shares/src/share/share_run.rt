@@ -11,8 +11,8 @@ use crate::share::env::ShareEnv;
 use crate::share::piece_task::new_tasks;
 use crate::share::share_pieces::SharePieces;
 use cut_disks::Disk;
-use cut_journal::{Journal, StoreFault};
-use cut_ledger::{Ledger, Slip, laws};
+use cut_journal::{Journal, StoreFault, laws};
+use cut_ledger::{Ledger, Slip};
 use cut_outcome::{Gate, Piece};
 use cut_plan::Plan;
 use cut_rings::Rings;
@@ -59,11 +59,11 @@ impl<G: Gate + Sync> ShareRun<'_, G> {
         ensures ends { EndsShare D.log result self.entry.share self.entry.plan.now self.entry.slips.now
             journal.old journal.new }
     {
-        journal.stays_readable();
+        laws::journals_stay_readable(journal);
         if !journal.plan().same(self.plan) {
             return Err(StoreFault::OtherPlan);
         }
-        laws::gaps_are_what_is_not_held();
+        cut_ledger::laws::gaps_are_what_is_not_held();
         let gaps = gaps_over(alloc, self.plan, self.slips)?;
         let rings = Rings::hashed(alloc, self.plan)?;
         let mut tasks = new_tasks(alloc, PIECES_A_WORKER * self.workers as usize)?;

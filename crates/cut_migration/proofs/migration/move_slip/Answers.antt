@@ -20,13 +20,13 @@ never v w p r fault is piece failed bad refused =
 
 pub returns-in-Err-Memory : goal.returns-in-Err-Memory
 returns-in-Err-Memory g c =
-    ([], None, (none_added g.D.Disk.log c.args.journal.now c.stays_readable.ensures.sound, (refl, refl)))
+    ([], None, (none_added g.D.Disk.log c.args.journal.now c.journals_stay_readable.ensures.sound, (refl, refl)))
 
 pub returns-then-not-is_true : goal.returns-then-not-is_true
 returns-then-not-is_true g c = (
   [],
   None,
-  (none_added g.D.Disk.log c.args.journal.now c.stays_readable.ensures.sound, (refl, search rules, (refl, refl))),
+  (none_added g.D.Disk.log c.args.journal.now c.journals_stay_readable.ensures.sound, (refl, search rules, (refl, refl))),
 )
 
 pub returns-in-Err-BadPiece : goal.returns-in-Err-BadPiece

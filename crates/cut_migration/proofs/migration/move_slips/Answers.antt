@@ -20,7 +20,7 @@ pub loop-slip-init : goal.loop-slip-init
 loop-slip-init g c = record {
   count = refl;
   true = λ i d low. absurd (omega (arith, low));
-  added = none_added g.D.Disk.log c.args.journal.now c.stays_readable.ensures.sound;
+  added = none_added g.D.Disk.log c.args.journal.now c.journals_stay_readable.ensures.sound;
 }
 
 pub returns-in_err-move_slip-clause-ends : goal.returns-in_err-move_slip-clause-ends

@@ -8,7 +8,7 @@ use Rattle.cut_server.proofs.serve.accepted.Goals as goal
 
 pub loop-study-preserved : goal.loop-study-preserved
 loop-study-preserved c =
-    let slots : List SlotEnd = c.slots-slots.result.now in
+    let slots : List SlotEnd = c.as_slice-slots.result.now in
     let n : ℕ = c.loop-study.study in
     let reported : SlotEnd → ℕ = λ s. accepted_recorded s.history in
     let second : SlotEnd = c.index-slots-study.result in

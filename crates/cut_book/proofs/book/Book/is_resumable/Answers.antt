@@ -6,4 +6,4 @@ returns-in-Some g c =
     rw (← c.self.view_is)
     (resumable g.D.Disk.log c.self.inside.journal c.in-Some.journal _ c.args.offered.now
     c.crashes_are_resumptions.ensures.between
-    c.crashes_are_resumptions.ensures.within c.in-Some.is c.stays_readable.ensures.sound c.self.invariant.followed)
+    c.crashes_are_resumptions.ensures.within c.in-Some.is c.journals_stay_readable.ensures.sound c.self.invariant.followed)

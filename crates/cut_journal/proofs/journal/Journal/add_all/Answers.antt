@@ -19,7 +19,7 @@ no_slip = record { piece = record { first = 0; count = 0 }; totals = each_number
 
 pub loop-slip-init : goal.loop-slip-init
 loop-slip-init g c =
-    record { added = none_added g.D.Disk.log c.args.self.now c.stays_readable.ensures.sound }
+    record { added = none_added g.D.Disk.log c.args.self.now c.journals_stay_readable.ensures.sound }
 
 pub add_slip-requires : goal.add_slip-requires
 add_slip-requires g c =

@@ -10,7 +10,7 @@ use Rattle.cut_journal.proofs.journal.Journal.add_slip.Goals as goal
 
 pub returns-in-Ok : goal.returns-in-Ok
 returns-in-Ok g c =
-    slip_added g.D.Disk.log c.args.slip c.args.self.now c.append_slip.new.self c.stays_readable.ensures.sound
+    slip_added g.D.Disk.log c.args.slip c.args.self.now c.append_slip.new.self c.journals_stay_readable.ensures.sound
     c.in-Ok.field-0 c.in-Ok.ensures.broken c.in-Ok.ensures.left c.in-Ok.ensures.appends
 
 pub returns-in-Err : goal.returns-in-Err
@@ -22,5 +22,5 @@ returns-in-Err g c =
     let broken : IsErrOf {T = ℕ} (Err c.in-Err.fault) journal.Broken ↔ IsSome old.doubtful = c.in-Err.ensures.broken in
     subst (λ (e : StoreFault). EndsAdding {T = ⊤} g.D.Disk.log (Err e) (c.args.slip ∷ []) old new)
     (sym c.store_fault_of.ensures)
-    (slip_failed g.D.Disk.log c.args.slip old new c.stays_readable.ensures.sound c.in-Err.fault others broken left
+    (slip_failed g.D.Disk.log c.args.slip old new c.journals_stay_readable.ensures.sound c.in-Err.fault others broken left
     c.in-Err.ensures.appends)

@@ -25,12 +25,12 @@ pub returns-in_err-joined : goal.returns-in_err-joined
 returns-in_err-joined g c =
     let p = err_from_is_err_and c.from_residual.result c.from_residual.ensures.1 in
     rw (p.1, p.2)
-    ([], None, (none_added g.D.Disk.log c.args.journal.now c.stays_readable.ensures.sound, (refl, refl)))
+    ([], None, (none_added g.D.Disk.log c.args.journal.now c.journals_stay_readable.ensures.sound, (refl, refl)))
 
 pub returns-then-not-same : goal.returns-then-not-same
 returns-then-not-same g c =
     let log = c.args.journal.now in
-    ([], None, (none_added g.D.Disk.log log c.stays_readable.ensures.sound, (search rules, (refl, refl))))
+    ([], None, (none_added g.D.Disk.log log c.journals_stay_readable.ensures.sound, (search rules, (refl, refl))))
 
 pub add_all-requires : goal.add_all-requires
 add_all-requires g c =

@@ -8,7 +8,7 @@ use Rattle.cut_shares.proofs.share.append.append.Goals as goal
 pub returns-in_default : goal.returns-in_default
 returns-in_default g c =
     rw c.in_default.is
-    ([], None, (none_added g.D.Disk.log c.args.journal.now c.stays_readable.ensures.sound, (refl, refl)))
+    ([], None, (none_added g.D.Disk.log c.args.journal.now c.journals_stay_readable.ensures.sound, (refl, refl)))
 
 pub add-requires : goal.add-requires
 add-requires g c = ap (λ (r : Computed). r.plan) (rw c.in-Some.is at c.requires)

@@ -10,7 +10,7 @@ append-requires g c =
     (c.requires c.loop-task.task-index c.task-item.result c.loop-task-test.true)
 
 pub loop-task-init : goal.loop-task-init
-loop-task-init g c = record { added = none_added g.D.Disk.log c.args.journal.now c.stays_readable.ensures.sound }
+loop-task-init g c = record { added = none_added g.D.Disk.log c.args.journal.now c.journals_stay_readable.ensures.sound }
 
 pub returns-in_err-append : goal.returns-in_err-append
 returns-in_err-append g c =

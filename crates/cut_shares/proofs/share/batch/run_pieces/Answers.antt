@@ -8,7 +8,7 @@ pub loop-pieces-init : goal.loop-pieces-init
 loop-pieces-init g c = record {
   plan = refl;
   share = refl;
-  upto = none_yet (none_added g.D.Disk.log c.args.journal.now c.stays_readable.ensures.sound);
+  upto = none_yet (none_added g.D.Disk.log c.args.journal.now c.journals_stay_readable.ensures.sound);
 }
 
 pub returns-then-count-eq0 : goal.returns-then-count-eq0

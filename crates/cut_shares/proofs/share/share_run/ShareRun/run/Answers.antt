@@ -9,25 +9,25 @@ pub returns-then-not-same-clause-ends : goal.returns-then-not-same-clause-ends
 returns-then-not-same-clause-ends g c = (
   [],
   None,
-  (none_added g.D.Disk.log c.args.journal.now c.stays_readable.ensures.sound, (search rules, (refl, refl))),
+  (none_added g.D.Disk.log c.args.journal.now c.journals_stay_readable.ensures.sound, (search rules, (refl, refl))),
 )
 
 pub returns-in_err-gaps-clause-ends : goal.returns-in_err-gaps-clause-ends
 returns-in_err-gaps-clause-ends g c =
     ends_unbegun g.D.Disk.log c.args.self.share c.args.self.plan.now c.args.self.slips.now c.args.journal.now
-    c.stays_readable.ensures.sound c.from_residual.result c.in_err-gaps.field-0.0 c.from_residual.ensures.1
+    c.journals_stay_readable.ensures.sound c.from_residual.result c.in_err-gaps.field-0.0 c.from_residual.ensures.1
     c.in_err-gaps.ensures.err (sym c.plan.ensures ∙ c.if-not-same.ensures.values.0 refl)
 
 pub returns-in_err-rings-clause-ends : goal.returns-in_err-rings-clause-ends
 returns-in_err-rings-clause-ends g c =
     ends_unbegun g.D.Disk.log c.args.self.share c.args.self.plan.now c.args.self.slips.now c.args.journal.now
-    c.stays_readable.ensures.sound c.from_residual-in_err-rings.result Memory c.from_residual-in_err-rings.ensures.1
+    c.journals_stay_readable.ensures.sound c.from_residual-in_err-rings.result Memory c.from_residual-in_err-rings.ensures.1
     tt (sym c.plan.ensures ∙ c.if-not-same.ensures.values.0 refl)
 
 pub returns-in_err-tasks-clause-ends : goal.returns-in_err-tasks-clause-ends
 returns-in_err-tasks-clause-ends g c =
     ends_unbegun g.D.Disk.log c.args.self.share c.args.self.plan.now c.args.self.slips.now c.args.journal.now
-    c.stays_readable.ensures.sound c.from_residual-in_err-tasks.result Memory c.from_residual-in_err-tasks.ensures.1
+    c.journals_stay_readable.ensures.sound c.from_residual-in_err-tasks.result Memory c.from_residual-in_err-tasks.ensures.1
     tt (sym c.plan.ensures ∙ c.if-not-same.ensures.values.0 refl)
 
 pub returns-in_err-run_pieces-clause-ends : goal.returns-in_err-run_pieces-clause-ends
