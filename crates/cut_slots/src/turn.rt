@@ -8,7 +8,6 @@ use cut_board::{Board, Seat};
 use cut_book::BookFault;
 use cut_disks::Disk;
 use cut_outcome::{Piece, PieceResult};
-use std::sync::ledger::Share;
 
 /// What a worker does after a turn.
 #[derive(Clone, Copy)]
@@ -34,7 +33,7 @@ pub struct Drawn {
 
 impl<D: Disk + Drop, K: CallLedger> Slot<D, K> {
     /// Hands the result of a drawn piece in, or returns how the worker goes on if it is not accepted. If it is, its
-    /// trials are counted by the pass on the board.
+    /// trials are counted by the pass on the board. If memory runs out for it the piece is lost.
     pub fn take_and_count<M: CallLedger, C: CallCounter<M, K>>(
         &mut self,
         counter: &C,
@@ -52,32 +51,13 @@ impl<D: Disk + Drop, K: CallLedger> Slot<D, K> {
             pass.old.view pass.new.view }
     {
         let Pass { seat, made } = pass;
-        let handed = self.take_drawn(counter, made, drawn.number, offered);
-        if handed.is_ok() {
-            count_trials(board, seat, drawn);
-        }
-        handed
-    }
-
-    /// Hands the result of a drawn piece to the book, or returns how the worker goes on if it is not accepted. The
-    /// piece of this number is lost if memory runs out for its result.
-    fn take_drawn<M: CallLedger, C: CallCounter<M, K>>(
-        &mut self,
-        counter: &C,
-        made: &mut Share<M>,
-        number: u64,
-        offered: &PieceResult,
-    ) -> Result<(), Next>
-        requires { made.old.parts ≡ 1 }
-        ensures taken { TakesDrawn result number offered.now self.old.book self.new.book }
-        ensures stays { (self.new.stopped ≡ self.old.stopped) × (self.new.given ≡ self.old.given) }
-        ensures made { made.old.amount ≤ made.new.amount }
-        ensures parts { made.new.parts ≡ 1 }
-    {
         match self.hand_in(counter, made, offered) {
-            Ok(()) => Ok(()),
+            Ok(()) => {
+                count_trials(board, seat, drawn);
+                Ok(())
+            }
             Err(CallFault::Refused(BookFault::Memory)) => {
-                let noted = self.lose(counter, made, number);
+                let noted = self.lose(counter, made, drawn.number);
                 Err(next_after(noted))
             }
             Err(fault) => Err(next_after(Err(fault))),
