@@ -3,7 +3,6 @@ ghost use Rattle.cut_fields.specs.declared.version.Version.TheVariants.{One, Two
 ghost use Rattle.cut_plan.specs.Plan.{IsPlan};
 ghost use Rattle.cut_plan.specs.Targets.{upgraded};
 ghost use Rattle.cut_plan.specs.Failing.{version_of};
-ghost use Rattle.cut_outcome.specs.Outcome.{rings_of};
 ghost use Rattle.cut_outcome.specs.Sum.{is_piece};
 ghost use Rattle.cut_ledger.specs.Slips.{AreGood};
 ghost use Rattle.cut_ledger.specs.World.{IsTrueSlip};
@@ -16,7 +15,7 @@ use cut_ledger::{Ledger, Slip};
 use cut_outcome::{PieceResult, Totals};
 use cut_plan::{Plan, Version};
 use cut_rings::Rings;
-use cut_trial::{TrialFault, run_piece};
+use cut_trial::PieceRunner;
 use std::alloc::Global;
 
 /// Moves the slips of a study of version 1 to the journal of its plan's upgrade: runs the trials of each slip again for
@@ -49,29 +48,26 @@ pub fn migrate<D: Disk>(
         return Err(StoreFault::OtherPlan);
     }
     let rings = Rings::hashed(alloc, &upgrade)?;
-    let target = Target {
-        plan,
-        upgrade: &upgrade,
+    let runner = PieceRunner {
+        alloc,
+        plan: &upgrade,
         rings: &rings,
     };
-    move_slips(alloc, slips, target, journal)
+    move_slips(slips, Target { plan, runner }, journal)
 }
 
-/// A plan of version 1, its upgrade, and the rings of the upgrade.
+/// A plan of version 1, and what runs pieces of its upgrade.
 #[derive(Clone, Copy)]
 struct Target<'a> {
     plan: &'a Plan,
-    upgrade: &'a Plan,
-    rings: &'a Rings,
+    runner: PieceRunner<'a>,
     ghost accepted: { IsPlan plan.now },
     ghost version: { version_of plan.now.failing ≡ One },
-    ghost upgrade_of: { upgrade.now ≡ upgraded plan.now },
-    ghost belong: { rings.now ≡ rings_of upgrade.now },
+    ghost upgrade_of: { runner.plan.now ≡ upgraded plan.now },
 }
 
 /// Moves slips one after another.
 fn move_slips<D: Disk>(
-    alloc: Global,
     slips: &[Slip],
     target: Target<'_>,
     journal: &mut Journal<D>,
@@ -84,7 +80,7 @@ fn move_slips<D: Disk>(
     laws::journals_stay_readable(journal);
     let mut count = 0;
     for slip in slips {
-        move_slip(alloc, slip, count + 1, target, journal)?;
+        move_slip(slip, count + 1, target, journal)?;
         count += 1;
     }
     Ok(count)
@@ -92,7 +88,6 @@ fn move_slips<D: Disk>(
 
 /// Moves a slip, which has this number.
 fn move_slip<D: Disk>(
-    alloc: Global,
     slip: &Slip,
     number: u64,
     target: Target<'_>,
@@ -103,11 +98,8 @@ fn move_slip<D: Disk>(
     ensures { MovesOne D.log result target.entry.plan.now number slip.now journal.old journal.new }
 {
     laws::journals_stay_readable(journal);
-    let result = match run_piece(alloc, target.upgrade, target.rings, slip.piece) {
-        Ok(result) => result,
-        Err(TrialFault::Memory) => return Err(StoreFault::Memory),
-        // A piece of the plan is one of its upgrade, so this doesn't come.
-        Err(TrialFault::BadPiece) => return Err(StoreFault::BadSlip(number)),
+    let Some(result) = target.runner.run(slip.piece) else {
+        return Err(StoreFault::Memory);
     };
     if !is_true(slip, &result, target) {
         return Err(StoreFault::Disagrees(number));
@@ -119,7 +111,7 @@ fn move_slip<D: Disk>(
 /// but for `settled`, as the result for the upgrade has them.
 fn is_true(slip: &Slip, found: &PieceResult, target: Target<'_>) -> bool
     requires piece { IsTrue (is_piece target.plan.now slip.now.piece) }
-    requires found { found.now ≡ record { plan = target.upgrade.now; piece = slip.now.piece } }
+    requires found { found.now ≡ record { plan = target.runner.plan.now; piece = slip.now.piece } }
     ensures { IsTrue result ↔ IsTrueSlip target.entry.plan.now slip.now }
 {
     cut_outcome::laws::pieces_have_possible_totals();

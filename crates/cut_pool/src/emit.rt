@@ -1,13 +1,11 @@
-ghost use Rattle.std.specs.Prelude.{◌≡◌, ◌+◌, ◌<◌, ◌≤◌, length, OnOk};
-ghost use Rattle.cut_plan.specs.Cells.{cells_of};
-ghost use Rattle.cut_ledger.specs.Table.{table_over};
-ghost use Rattle.cut_pool.specs.inside.Emission.{EmitsStudy, emit_result_of};
+ghost use Rattle.std.specs.Prelude.{◌≡◌, ◌<◌};
+ghost use Rattle.cut_pool.specs.inside.Emission.{emit_result_of};
 
 use cut_book::Opened;
 use cut_disks::Disk;
 use cut_hall::{CallLedger, Gate, Hall, NextRowFault, Pass, StudyCell};
 use cut_ledger::lines::header;
-use cut_wires::{CountingWriter, PlainRows, RowSource, RowsFault, Wire, send_rows};
+use cut_wires::{RowSource, RowsFault};
 use std::alloc::Global;
 use std::sync::Wait;
 
@@ -72,32 +70,8 @@ where
     ghost fits = { λ _. Prim.omega arith };
 }
 
-impl<D, M, K, G, R> StudyRows<'_, D, M, K, G, R>
-where
-    D: Disk + Drop,
-    M: CallLedger,
-    K: CallLedger,
-    G: Gate,
-    R: Wait,
-{
-    /// Writes the table of the study: the header, and the line of each cell in order. Returns how many bytes the table
-    /// has.
-    pub(crate) fn emit<W: Wire>(&mut self, wire: &mut W) -> Result<u64, EmitFault>
-        ensures emits { EmitsStudy (table_over self.old.opened.now.plan self.old.opened.now.base) result
-            (W.log wire.old) (W.log wire.new) }
-        ensures pass { self.new.pass.ghost_name ≡ self.old.pass.ghost_name }
-        ensures own { self.new.pass.now.hall ≡ self.old.pass.now.hall }
-        ensures made { OnOk result (self.old.pass.now.made + length (cells_of self.old.opened.now.plan)
-            ≤ self.new.pass.now.made) }
-    {
-        let mut writer = CountingWriter::new(wire);
-        let result = send_rows::<PlainRows, Self, W>(self, &mut writer);
-        emit_result_of(result, writer.sent())
-    }
-}
-
 /// The result of writing a table, by the result of sending its lines and the number of bytes sent.
-fn emit_result_of(outcome: Result<(), EmitFault>, sent: u64) -> Result<u64, EmitFault>
+pub(crate) fn emit_result_of(outcome: Result<(), EmitFault>, sent: u64) -> Result<u64, EmitFault>
     ensures { result ≡ emit_result_of outcome sent }
 {
     match outcome {

@@ -2,6 +2,7 @@ ghost use Rattle.std.specs.Prelude.{◌≡◌, Some, None, option_copied};
 ghost use Rattle.cut_slots.specs.Report.{calls_recorded, accepted_recorded};
 
 use cut_book::History;
+use cut_lists::Items;
 use std::marker::Model;
 
 /// The end of a slot. Contracts see the history of its study, if it had one, and whether every trial of it was held at

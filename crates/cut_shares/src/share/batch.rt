@@ -25,7 +25,7 @@ pub(crate) fn run_pieces<D: Disk, G: Gate + Sync, R: Threads + Wait + Sync>(
     journal: &mut Journal<D>,
 ) -> Result<bool, StoreFault>
     requires some { 1 ≤ length tasks.old }
-    requires plan { env.now.plan.now ≡ pieces.plan.now }
+    requires plan { env.now.runner.plan.now ≡ pieces.plan.now }
     requires own { journal.old.plan ≡ pieces.plan.now }
     ensures { EndsPieces D.log result pieces.entry.share pieces.entry.plan.now
         (pieces.entry.rest ∷ pieces.entry.later.now) journal.old journal.new }
@@ -50,7 +50,7 @@ fn run_batch<D: Disk, G: Gate + Sync, R: Threads + Wait + Sync>(
     tasks: &mut [PieceTask],
     journal: &mut Journal<D>,
 ) -> Result<bool, StoreFault>
-    requires { journal.old.plan ≡ env.now.plan.now }
+    requires { journal.old.plan ≡ env.now.runner.plan.now }
     ensures pieces { pieces_of tasks.new ≡ pieces_of tasks.old }
     ensures ends { EndsAdding D.log result (slips_at journal.old.plan (done_of tasks.new)) journal.old journal.new }
     ensures done { IfOk result (λ is_done. is_done ≡ list_all has_result tasks.new) }

@@ -1,30 +1,23 @@
 ghost use Rattle.std.specs.Prelude.{◌≡◌, ◌≤◌};
-ghost use Rattle.cut_outcome.specs.Outcome.{rings_of};
 
 use crate::share::piece_task::PieceTask;
-use cut_outcome::{Gate, Piece, PieceResult};
-use cut_plan::Plan;
-use cut_rings::Rings;
-use cut_trial::{run_piece, twice};
-use std::alloc::Global;
+use cut_outcome::Gate;
+use cut_trial::PieceRunner;
 use std::sync::Wait;
 use std::thread;
 use std::thread::Threads;
 
-/// What threads need to run pieces of a plan, and how many threads there may be.
+/// What runs pieces of a plan, and by how many threads it may.
 #[derive(Drop)]
 pub(crate) struct ShareEnv<'a, G> {
-    pub(crate) alloc: Global,
-    pub(crate) plan: &'a Plan,
-    pub(crate) rings: &'a Rings,
+    pub(crate) runner: PieceRunner<'a>,
     pub(crate) workers: u32,
     pub(crate) gate: &'a G,
-    ghost own: { rings.now ≡ rings_of plan.now },
     ghost some: { 1 ≤ workers },
 }
 
 impl<G: Gate> ShareEnv<'_, G> {
-    ghost use Rattle.std.specs.Prelude.{All, IfSome};
+    ghost use Rattle.std.specs.Prelude.{All};
     ghost use Rattle.cut_shares.specs.share.inside.Tasks.{IsRun, pieces_of};
 
     /// Runs the piece of each task, in as many threads as are allowed and can be made. If memory runs out twice for a
@@ -33,7 +26,7 @@ impl<G: Gate> ShareEnv<'_, G> {
     where
         G: Sync,
         ensures pieces { pieces_of tasks.new ≡ pieces_of tasks.old }
-        ensures run { All (IsRun self.now.plan.now) tasks.new }
+        ensures run { All (IsRun self.now.runner.plan.now) tasks.new }
     {
         thread::for_each_mut(
             rt,
@@ -41,7 +34,7 @@ impl<G: Gate> ShareEnv<'_, G> {
             self.workers as usize,
             &|_, task: &mut PieceTask|
                 ensures piece { task.new.piece ≡ task.old.piece }
-                ensures run { IsRun self.entry.now.plan.now task.new }
+                ensures run { IsRun self.entry.now.runner.plan.now task.new }
             { self.run(rt, task) },
         );
     }
@@ -49,19 +42,9 @@ impl<G: Gate> ShareEnv<'_, G> {
     /// Runs the piece of a task once the gate lets it pass.
     fn run<R: Wait>(&self, rt: &R, task: &mut PieceTask)
         ensures piece { task.new.piece ≡ task.old.piece }
-        ensures run { IsRun self.now.plan.now task.new }
+        ensures run { IsRun self.now.runner.plan.now task.new }
     {
         self.gate.pass(rt, task.piece);
-        task.result = self.compute(task.piece);
-    }
-
-    /// Runs a piece, and once more if memory ran out.
-    fn compute(&self, piece: Piece) -> Option<PieceResult>
-        ensures { IfSome result (λ r. r ≡ record { plan = self.now.plan.now; piece = piece }) }
-    {
-        let mut attempt = || -> Option<PieceResult>
-            ensures { IfSome result (λ r. r ≡ record { plan = self.entry.now.plan.now; piece = piece }) }
-        { run_piece(self.alloc, self.plan, self.rings, piece).ok() };
-        twice(&mut attempt)
+        task.result = self.runner.run(task.piece);
     }
 }

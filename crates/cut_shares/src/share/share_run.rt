@@ -16,6 +16,7 @@ use cut_ledger::{Ledger, Slip};
 use cut_outcome::{Gate, Piece};
 use cut_plan::Plan;
 use cut_rings::Rings;
+use cut_trial::PieceRunner;
 use std::alloc::Global;
 use std::sync::Wait;
 use std::thread::Threads;
@@ -72,10 +73,13 @@ impl<G: Gate + Sync> ShareRun<'_, G> {
         let left = pieces.trials_left();
         self.gate
             .opened(rt, u64::from(all).saturating_sub(left), u64::from(all));
-        let env = ShareEnv {
+        let runner = PieceRunner {
             alloc,
             plan: self.plan,
             rings: &rings,
+        };
+        let env = ShareEnv {
+            runner,
             workers: self.workers,
             gate: self.gate,
         };

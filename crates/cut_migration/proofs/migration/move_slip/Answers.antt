@@ -10,14 +10,6 @@ use Rattle.cut_journal.proofs.Adding.{none_added}
 use Rattle.cut_migration.proofs.Migrations.{adds_moved}
 use Rattle.cut_migration.proofs.migration.move_slip.Goals as goal
 
--- a piece of a plan is one of its upgrade, so that its run is not refused
-never : {T : Type 0} (v w : Values) (p : Piece) (r : Result T TrialFault) (fault : TrialFault) → w ≡ upgraded v
-    → IsTrue (is_piece v p) → r ≡ Err fault → fault ≡ BadPiece → IsErrOf r BadPiece ↔ (is_piece w p ≡ false) → ⊥
-never v w p r fault is piece failed bad refused =
-    let same : is_piece w p ≡ true = ap (λ (u : Values). is_piece u p) is ∙ piece in
-    let none = refused.0 (failed ∙ ap Err bad) in
-    cc
-
 pub returns-in-Err-Memory : goal.returns-in-Err-Memory
 returns-in-Err-Memory g c =
     ([], None, (none_added g.D.Disk.log c.args.journal.now c.journals_stay_readable.ensures.sound, (refl, refl)))
@@ -29,14 +21,8 @@ returns-then-not-is_true g c = (
   (none_added g.D.Disk.log c.args.journal.now c.journals_stay_readable.ensures.sound, (refl, search rules, (refl, refl))),
 )
 
-pub returns-in-Err-BadPiece : goal.returns-in-Err-BadPiece
-returns-in-Err-BadPiece g c =
-    absurd (never c.args.target.plan.now c.args.target.upgrade.now c.args.slip.now.piece c.run_piece.result
-    c.in-Err-BadPiece.field-0 c.args.target.upgrade_of c.requires.piece c.in-Err-BadPiece.is
-    c.in-Err-BadPiece.field-0-is c.run_piece.ensures.bad)
-
 pub returns : goal.returns
 returns g c =
-    adds_moved g.D.Disk.log c.add.result c.args.target.plan.now c.args.target.upgrade.now c.args.number c.args.slip.now
+    adds_moved g.D.Disk.log c.add.result c.args.target.plan.now c.args.target.runner.plan.now c.args.number c.args.slip.now
     c.in-Ok.result c.args.journal.now c.add.new.self c.args.target.upgrade_of c.in-Ok.ensures.ok
     (c.is_true.ensures.0 (search rules)) c.add.ensures
