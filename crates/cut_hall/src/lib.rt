@@ -14,6 +14,7 @@ mod close;
 mod hall;
 mod locked_accounts;
 mod work;
+mod work_env;
 
 pub use close::ClosedStudy;
 pub use cut_outcome::{Gate, OpenGate};
@@ -22,3 +23,4 @@ pub use cut_slots::{
 };
 pub use hall::Hall;
 pub use work::StudyCell;
+pub use work_env::WorkEnv;

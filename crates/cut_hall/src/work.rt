@@ -4,7 +4,7 @@ ghost use Rattle.cut_slots.specs.Turn.{CountsAccepted};
 ghost use Rattle.cut_outcome.specs.Outcome.{rings_of};
 
 use crate::hall::LockedSlot;
-use crate::{CallLedger, Gate, Hall, Pass};
+use crate::{CallLedger, Gate, Hall, Pass, WorkEnv};
 use cut_disks::Disk;
 use cut_outcome::{Piece, PieceResult};
 use cut_plan::Plan;
@@ -77,8 +77,9 @@ impl<D: Disk + Drop, M: CallLedger, K: CallLedger> Hall<D, M, K> {
         ensures own { pass.new.hall ≡ pass.old.hall }
         ensures made { pass.old.made ≤ pass.new.made }
     {
+        let env = WorkEnv { rt, alloc, gate };
         for study in 0..self.places.len() as u32 {
-            if self.wait_for_study(rt, study) || !self.work_off(rt, alloc, pass, gate, study) {
+            if self.wait_for_study(rt, study) || !self.work_off(&env, pass, study) {
                 return;
             }
         }
@@ -90,10 +91,8 @@ impl<D: Disk + Drop, M: CallLedger, K: CallLedger> Hall<D, M, K> {
     /// another study: not after `stop`, nor if nothing more can be drawn by this pass, or counted by the hall.
     pub fn work_off<R: Wait, G: Gate>(
         &self,
-        rt: &R,
-        alloc: Global,
+        env: &WorkEnv<'_, R, G>,
         pass: &mut Pass<M>,
-        gate: &G,
         study: u32,
     ) -> bool
         requires own { pass.old.hall ≡ self.now.id }
@@ -101,8 +100,8 @@ impl<D: Disk + Drop, M: CallLedger, K: CallLedger> Hall<D, M, K> {
         ensures own { pass.new.hall ≡ pass.old.hall }
         ensures made { pass.old.made ≤ pass.new.made }
     {
-        for _ in rt.forever() {
-            match self.turn(rt, alloc, pass, gate, study) {
+        for _ in env.rt.forever() {
+            match self.turn(env, pass, study) {
                 Next::Piece => {}
                 Next::Study => return true,
                 Next::Nothing => return false,
@@ -115,10 +114,8 @@ impl<D: Disk + Drop, M: CallLedger, K: CallLedger> Hall<D, M, K> {
     /// asks for the cell's line waits for no piece that nobody has begun.
     pub fn work_on_cell<R: Wait, G: Gate>(
         &self,
-        rt: &R,
-        alloc: Global,
+        env: &WorkEnv<'_, R, G>,
         pass: &mut Pass<M>,
-        gate: &G,
         wanted: StudyCell,
     )
         requires own { pass.old.hall ≡ self.now.id }
@@ -128,11 +125,11 @@ impl<D: Disk + Drop, M: CallLedger, K: CallLedger> Hall<D, M, K> {
     {
         let StudyCell { study, cell } = wanted;
         let place = &self.places[study as usize];
-        for _ in rt.forever() {
-            if place.slot.lock(rt).is_done(cell) {
+        for _ in env.rt.forever() {
+            if place.slot.lock(env.rt).is_done(cell) {
                 return;
             }
-            match self.turn(rt, alloc, pass, gate, study) {
+            match self.turn(env, pass, study) {
                 Next::Piece => {}
                 Next::Study | Next::Nothing => return,
             }
@@ -142,10 +139,8 @@ impl<D: Disk + Drop, M: CallLedger, K: CallLedger> Hall<D, M, K> {
     /// Draws a piece of a study, runs it and hands it in.
     fn turn<R: Wait, G: Gate>(
         &self,
-        rt: &R,
-        alloc: Global,
+        env: &WorkEnv<'_, R, G>,
         pass: &mut Pass<M>,
-        gate: &G,
         study: u32,
     ) -> Next
         requires own { pass.old.hall ≡ self.now.id }
@@ -153,6 +148,7 @@ impl<D: Disk + Drop, M: CallLedger, K: CallLedger> Hall<D, M, K> {
         ensures own { pass.new.hall ≡ pass.old.hall }
         ensures made { pass.old.made ≤ pass.new.made }
     {
+        let WorkEnv { rt, alloc, gate } = *env;
         let drawn = match self.draw_piece(rt, pass, study) {
             Ok(drawn) => drawn,
             Err(next) => return next,

@@ -3,7 +3,7 @@ ghost use Rattle.std.specs.Prelude.{true, ◌≡◌, ◌<◌, All, IfOk};
 
 use cut_book::{Opened, Shelf, ShelfFault, SubmitFault};
 use cut_disks::{FaultyDisk, MemoryDisk, Tear};
-use cut_hall::{CallLedger, Hall, NextRowFault, OpenGate, Pass, Report, StudyCell};
+use cut_hall::{CallLedger, Hall, NextRowFault, OpenGate, Pass, Report, StudyCell, WorkEnv};
 use cut_journal::Journal;
 use cut_plan::Plan;
 use cut_pool_cases::Study;
@@ -196,8 +196,7 @@ impl<M: CallLedger, K: CallLedger, R: Wait> Guest<'_, M, K, R> {
             study: opened.study,
             cell,
         };
-        self.hall
-            .work_on_cell(self.rt, self.alloc, pass, &OpenGate, wanted);
+        self.hall.work_on_cell(&self.env(), pass, wanted);
         match self.wait_for_row(pass, opened, study, cell) {
             End::Line => self.ask_again(opened, study, cell),
             end => end,
@@ -226,15 +225,22 @@ impl<M: CallLedger, K: CallLedger, R: Wait> Guest<'_, M, K, R> {
         End::Noted(first && !second)
     }
 
+    /// What it works with, with a gate that lets all pass.
+    pub(crate) fn env(&self) -> WorkEnv<'_, R, OpenGate> {
+        WorkEnv {
+            rt: self.rt,
+            alloc: self.alloc,
+            gate: &OpenGate,
+        }
+    }
+
     /// Works on an opened study until nothing is left of it.
     pub(crate) fn work_off(&self, pass: &mut Pass<M>, study: u32) -> End
         requires own { pass.old.hall ≡ self.now.hall.now.id }
         requires slot { study < self.now.hall.now.slots }
         ensures { pass.new.hall ≡ pass.old.hall }
     {
-        let may_go_on = self
-            .hall
-            .work_off(self.rt, self.alloc, pass, &OpenGate, study);
+        let may_go_on = self.hall.work_off(&self.env(), pass, study);
         End::Worked(may_go_on)
     }
 

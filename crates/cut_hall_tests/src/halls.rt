@@ -5,7 +5,7 @@ ghost use Rattle.cut_slots.specs.declared.not_closed.NotClosed.TheVariants.{Seat
 
 use crate::deeds::{Deed, End, Foul, Guest, Stormy, close_hall};
 use cut_book::{NoShelf, Opened};
-use cut_hall::{Blanks, CallLedger, Hall, NotClosed, OpenGate, Pass, Report, StudyCell};
+use cut_hall::{Blanks, CallLedger, Hall, NotClosed, Pass, Report, StudyCell};
 use cut_ledger::{Base, Slip};
 use cut_outcome::{Piece, Totals};
 use cut_plan::Plan;
@@ -80,8 +80,7 @@ impl<M: CallLedger, K: CallLedger, R: Wait> Guest<'_, M, K, R> {
         match step {
             Step::Work => {
                 let first = StudyCell { study: 0, cell: 0 };
-                self.hall
-                    .work_on_cell(self.rt, self.alloc, pass, &OpenGate, first);
+                self.hall.work_on_cell(&self.env(), pass, first);
                 self.work_off(pass, 0)
             }
             Step::Stop => {

@@ -3,10 +3,9 @@ ghost use Rattle.cut_pool.specs.inside.Emission.{emit_result_of};
 
 use cut_book::Opened;
 use cut_disks::Disk;
-use cut_hall::{CallLedger, Gate, Hall, NextRowFault, Pass, StudyCell};
+use cut_hall::{CallLedger, Gate, Hall, NextRowFault, Pass, StudyCell, WorkEnv};
 use cut_ledger::lines::header;
 use cut_wires::{RowSource, RowsFault};
-use std::alloc::Global;
 use std::sync::Wait;
 
 /// Why a study's table was not written to its end: a write failed, or the next line did not come.
@@ -16,12 +15,10 @@ pub(crate) type EmitFault = RowsFault<NextRowFault>;
 /// too. Each line is one call that the pass made.
 #[derive(Drop)]
 pub(crate) struct StudyRows<'a, D: Disk, M: CallLedger, K: CallLedger, G, R> {
-    pub(crate) rt: &'a R,
-    pub(crate) alloc: Global,
+    pub(crate) env: WorkEnv<'a, R, G>,
     pub(crate) hall: &'a Hall<D, M, K>,
     pub(crate) opened: &'a Opened,
     pub(crate) pass: &'a mut Pass<M>,
-    pub(crate) gate: &'a G,
     ghost own: { pass.now.hall ≡ hall.now.id },
     ghost slot: { opened.now.study < hall.now.slots },
 }
@@ -61,8 +58,8 @@ where
             study: opened.study,
             cell: place,
         };
-        hall.work_on_cell(self.rt, self.alloc, self.pass, self.gate, wanted);
-        hall.next_row(self.rt, self.alloc, self.pass, opened, place)
+        hall.work_on_cell(&self.env, self.pass, wanted);
+        hall.next_row(self.env.rt, self.env.alloc, self.pass, opened, place)
     }
 
     ghost begins = { λ rows. begun rows.pass.ghost_name rows.pass.now };

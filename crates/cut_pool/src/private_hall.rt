@@ -18,7 +18,7 @@ use crate::emit::{EmitFault, StudyRows, emit_result_of};
 use crate::study_run::EndedRun;
 use cut_book::{Book, Opened};
 use cut_disks::Disk;
-use cut_hall::{Blanks, CallLedger, ClosedStudy, Gate, Hall, NotClosed, Pass};
+use cut_hall::{Blanks, CallLedger, ClosedStudy, Gate, Hall, NotClosed, Pass, WorkEnv};
 use cut_wires::{CountingWriter, PlainRows, Wire, send_rows};
 use std::alloc::{AllocError, Global};
 use std::sync::Wait;
@@ -35,14 +35,6 @@ pub(crate) struct OpenedStudy<D: Disk> {
     ghost few: { (1 ≤ workers) × (workers ≤ 64) },
     ghost fresh: { IsFresh book.state.ledger.plan book.size book } by { Prim.hlevel props },
     ghost good: { AreGood book.state.ledger.plan book.state.ledger.base } by { Prim.hlevel begun_props },
-}
-
-/// What a worker works with, beside its pass.
-#[derive(Clone, Copy)]
-pub(crate) struct Env<'a, R, G> {
-    pub(crate) rt: &'a R,
-    pub(crate) alloc: Global,
-    pub(crate) gate: &'a G,
 }
 
 /// The passes of a study's workers: that of the thread that writes, and those of all others.
@@ -68,7 +60,7 @@ impl<D: Disk + Drop, M: CallLedger, K: CallLedger> PrivateHall<D, M, K> {
     /// Runs a study that has begun, in a hall of its own: by workers in threads of their own, and by this thread, which
     /// writes the table. The blanks are as for `open`.
     pub(crate) fn run<W, G, R>(
-        env: Env<'_, R, G>,
+        env: WorkEnv<'_, R, G>,
         begun: OpenedStudy<D>,
         blanks: Blanks,
         wire: &mut W,
@@ -99,7 +91,7 @@ impl<D: Disk + Drop, M: CallLedger, K: CallLedger> PrivateHall<D, M, K> {
                     opened,
                     mut crew,
                 } = study;
-                let sent = crew.stream(env, &hall, &opened, wire);
+                let sent = crew.stream(&env, &hall, &opened, wire);
                 conclude_run(sent, crew.close(alloc, hall))
             }
             Err(book) => {
@@ -172,7 +164,7 @@ impl<M: CallLedger> WorkerPasses<M> {
     /// is not there. Once the table is written, or can't be, the hall is stopped.
     fn stream<D, K, W, G, R>(
         &mut self,
-        env: Env<'_, R, G>,
+        env: &WorkEnv<'_, R, G>,
         hall: &Hall<D, M, K>,
         opened: &Opened,
         wire: &mut W,
@@ -193,7 +185,7 @@ impl<M: CallLedger> WorkerPasses<M> {
         ensures writer { self.new.writer.hall ≡ hall.now.id }
         ensures made { OnOk result (length (cells_of opened.now.plan) ≤ self.new.writer.made) }
     {
-        let Env { rt, alloc, gate } = env;
+        let WorkEnv { rt, alloc, gate } = *env;
         let WorkerPasses { writer, others } = self;
         let mut write = || -> Result<u64, EmitFault>
             requires own { writer.now.hall ≡ hall.now.id }
@@ -204,12 +196,10 @@ impl<M: CallLedger> WorkerPasses<M> {
             ensures made { OnOk result (length (cells_of opened.entry.now.plan) ≤ writer.exit.now.made) }
         {
             let mut rows = StudyRows {
-                rt,
-                alloc,
+                env: WorkEnv { rt, alloc, gate },
                 hall,
                 opened,
                 pass: writer,
-                gate,
             };
             let mut counting = CountingWriter::new(wire);
             let outcome = send_rows::<PlainRows, _, W>(&mut rows, &mut counting);
@@ -219,7 +209,7 @@ impl<M: CallLedger> WorkerPasses<M> {
         let mut work = ||
             requires { (0 < hall.now.slots) × All (λ p. p.hall ≡ hall.now.id) others.now.items }
             ensures { All (λ p. p.hall ≡ hall.entry.now.id) others.exit.now.items }
-        { work_off_all(Env { rt, alloc, gate }, hall, others) };
+        { work_off_all(&WorkEnv { rt, alloc, gate }, hall, others) };
         let (_, sent) = join_mut(rt, &mut work, &mut write);
         sent
     }
@@ -256,7 +246,7 @@ impl<M: CallLedger> WorkerPasses<M> {
 /// are left to be drawn. If no thread can be made, they find nothing left to do once the table is written. Where memory
 /// is refused the passes are gone, and the thread that writes does their work.
 fn work_off_all<D, M, K, G, R>(
-    env: Env<'_, R, G>,
+    env: &WorkEnv<'_, R, G>,
     hall: &Hall<D, M, K>,
     passes: &mut Vec<Pass<M>>,
 )
@@ -270,7 +260,7 @@ where
     requires own { All (λ p. p.hall ≡ hall.now.id) passes.old.items }
     ensures { All (λ p. p.hall ≡ hall.now.id) passes.new.items }
 {
-    let Env { rt, alloc, gate } = env;
+    let WorkEnv { rt, alloc, gate } = *env;
     let waiting = mem::replace(passes, Vec::new(alloc));
     let worked = thread::map_vec(
         rt,
@@ -279,7 +269,7 @@ where
             requires { (0 < hall.now.slots) × (pass.hall ≡ hall.now.id) }
             ensures { result.hall ≡ hall.entry.now.id }
         {
-            hall.work_off(rt, alloc, &mut pass, gate, 0);
+            hall.work_off(&WorkEnv { rt, alloc, gate }, &mut pass, 0);
             pass
         },
     );

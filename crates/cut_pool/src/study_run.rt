@@ -12,10 +12,10 @@ ghost use Rattle.cut_pool.specs.inside.Leaving.{journal_in};
 
 use crate::RunFault;
 use crate::conclusion::disk_of;
-use crate::private_hall::{Env, OpenedStudy, PrivateHall};
+use crate::private_hall::{OpenedStudy, PrivateHall};
 use cut_book::{Book, BookFault};
 use cut_disks::Disk;
-use cut_hall::{Blanks, Gate, Report};
+use cut_hall::{Blanks, Gate, Report, WorkEnv};
 use cut_journal::Journal;
 use cut_ledger::Slip;
 use cut_plan::{Plan, laws};
@@ -112,7 +112,7 @@ impl<D: Disk + Drop + Send> StudyRun<'_, D> {
                     made: Blank::new(u64::from(workers)),
                     kept: Blank::new(1),
                 };
-                let env = Env { rt, alloc, gate };
+                let env = WorkEnv { rt, alloc, gate };
                 PrivateHall::<D, Brand, Brand>::run::<W, G, R>(env, begun, blanks, wire)
             }
             Err((fault, journal)) => EndedRun {
