@@ -19,8 +19,8 @@ use Rattle.cut_ledger.specs.declared.slip.Slip.{Slip}
 use Rattle.cut_ledger.specs.Machine.{slip_of}
 use Rattle.cut_ledger.specs.World.{IsTrueSlip}
 use Rattle.cut_journal.specs.declared.store_fault.StoreFault.{StoreFault}
-use Rattle.cut_journal.specs.declared.store_fault.StoreFault.TheVariants.{Memory, NotVersion1, BadSlip, OtherPlan}
-use Rattle.cut_journal.specs.declared.store_fault.StoreFault.TheVariants.{Disagrees, WorkMemory, Broken, Disk}
+use Rattle.cut_journal.specs.declared.store_fault.StoreFault.TheVariants.{Memory}
+use Rattle.cut_journal.specs.declared.store_fault.StoreFault.TheVariants.{Disagrees, Broken, Disk}
 use Rattle.cut_journal.specs.Adding.{Adds, EndsAdding}
 use Rattle.cut_journal.specs.FaultCode.{fault_of_slips}
 use Rattle.cut_journal.specs.Journal.{IsFileOf, JournalValue}

@@ -58,9 +58,9 @@ pub fn migrate<D: Disk>(
 
 /// A plan of version 1, and what runs pieces of its upgrade.
 #[derive(Clone, Copy)]
-struct Target<'a> {
-    plan: &'a Plan,
-    runner: PieceRunner<'a>,
+struct Target<'p, 'u> {
+    plan: &'p Plan,
+    runner: PieceRunner<'u>,
     ghost accepted: { IsPlan plan.now },
     ghost version: { version_of plan.now.failing ≡ One },
     ghost upgrade_of: { runner.plan.now ≡ upgraded plan.now },
@@ -69,7 +69,7 @@ struct Target<'a> {
 /// Moves slips one after another.
 fn move_slips<D: Disk>(
     slips: &[Slip],
-    target: Target<'_>,
+    target: Target<'_, '_>,
     journal: &mut Journal<D>,
 ) -> Result<u64, StoreFault>
     requires good { AreGood target.plan.now slips.now }
@@ -90,7 +90,7 @@ fn move_slips<D: Disk>(
 fn move_slip<D: Disk>(
     slip: &Slip,
     number: u64,
-    target: Target<'_>,
+    target: Target<'_, '_>,
     journal: &mut Journal<D>,
 ) -> Result<(), StoreFault>
     requires piece { IsTrue (is_piece target.plan.now slip.now.piece) }
@@ -109,7 +109,7 @@ fn move_slip<D: Disk>(
 
 /// Whether a slip of a plan of version 1 has the sums that its trials give, which are those of the upgrade
 /// but for `settled`, as the result for the upgrade has them.
-fn is_true(slip: &Slip, found: &PieceResult, target: Target<'_>) -> bool
+fn is_true(slip: &Slip, found: &PieceResult, target: Target<'_, '_>) -> bool
     requires piece { IsTrue (is_piece target.plan.now slip.now.piece) }
     requires found { found.now ≡ record { plan = target.runner.plan.now; piece = slip.now.piece } }
     ensures { IsTrue result ↔ IsTrueSlip target.entry.plan.now slip.now }

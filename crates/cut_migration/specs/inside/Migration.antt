@@ -1,5 +1,5 @@
 -- What only the crate's own clauses and proofs cite, beside specs/Migration.antt.
-use Rattle.std.specs.Prelude.{◌≡◌, ℕ, List, [], ◌∷◌, Option, Result, Ok, Err}
+use Rattle.std.specs.Prelude.{◌≡◌, ℕ, List, [], ◌∷◌, Option, Result, Err}
 use Rattle.cut_plan.specs.Values.{Values}
 use Rattle.cut_disks.specs.Log.{DiskLog}
 use Rattle.cut_ledger.specs.declared.slip.Slip.{Slip}

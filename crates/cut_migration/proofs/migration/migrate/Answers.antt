@@ -1,7 +1,5 @@
 use Rattle.std.proofs.Common.{rules, ◌≡◌, ◌∙◌, List, Err, inl, refl, ap, subst}
 use Rattle.std.proofs.lemmas.Result.{err_from_is_err_and}
-use Rattle.cut_fields.specs.declared.version.Version.TheVariants.{One}
-use Rattle.cut_plan.specs.Failing.{version_of}
 use Rattle.cut_plan.specs.Values.{Values}
 use Rattle.cut_ledger.specs.Slips.{AreGood}
 use Rattle.cut_journal.specs.declared.store_fault.StoreFault.{StoreFault}

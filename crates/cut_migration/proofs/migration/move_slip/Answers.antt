@@ -1,17 +1,10 @@
-use Rattle.std.proofs.Common.{◌≡◌, rules, ◌∙◌, [], None, refl, true, false, IsTrue, Result, Err, ap}
-use Rattle.std.specs.Prelude.{IsErrOf, ◌↔◌}
-use Rattle.cut_plan.specs.Targets.{upgraded}
-use Rattle.cut_plan.specs.Values.{Values}
-use Rattle.cut_outcome.specs.declared.piece.Piece.{Piece}
-use Rattle.cut_outcome.specs.Sum.{is_piece}
-use Rattle.cut_trial.specs.declared.fault.TrialFault.{TrialFault}
-use Rattle.cut_trial.specs.declared.fault.TrialFault.TheVariants.{BadPiece}
+use Rattle.std.proofs.Common.{rules, [], None, refl}
 use Rattle.cut_journal.proofs.Adding.{none_added}
 use Rattle.cut_migration.proofs.Migrations.{adds_moved}
 use Rattle.cut_migration.proofs.migration.move_slip.Goals as goal
 
-pub returns-in-Err-Memory : goal.returns-in-Err-Memory
-returns-in-Err-Memory g c =
+pub returns-in_default : goal.returns-in_default
+returns-in_default g c =
     ([], None, (none_added g.D.Disk.log c.args.journal.now c.journals_stay_readable.ensures.sound, (refl, refl)))
 
 pub returns-then-not-is_true : goal.returns-then-not-is_true
@@ -24,5 +17,5 @@ returns-then-not-is_true g c = (
 pub returns : goal.returns
 returns g c =
     adds_moved g.D.Disk.log c.add.result c.args.target.plan.now c.args.target.runner.plan.now c.args.number c.args.slip.now
-    c.in-Ok.result c.args.journal.now c.add.new.self c.args.target.upgrade_of c.in-Ok.ensures.ok
+    c.in-Some.result c.args.journal.now c.add.new.self c.args.target.upgrade_of c.in-Some.ensures
     (c.is_true.ensures.0 (search rules)) c.add.ensures
