@@ -22,7 +22,7 @@ use Rattle.cut_migration.specs.Migration as moves
 use Rattle.cut_migration.specs.Migration.{AreTrueUpTo, first_moved, moved}
 use Rattle.cut_wires.specs.Log.{WireLog}
 use Rattle.cut_commands.specs.declared.fault.CliFault.{CliFault}
-use Rattle.cut_commands.specs.declared.fault.CliFault.TheVariants.{Memory, Plan, Read, Write, Journal, Migrate}
+use Rattle.cut_commands.specs.declared.fault.CliFault.TheVariants.{Memory, Plan, Read, Write, Journal, Store}
 use Rattle.cut_commands.specs.Faults.{fault_of_journal, fault_of_store}
 use Rattle.cut_commands.specs.Migrate.{AreStill, EndsMove, HasMovedAll, IsFree, LeavesSome, LeavesStill, MigrateDisks}
 use Rattle.cut_commands.specs.Migrate.{MigratesFrom, WasRead, all_moved, migrate_task, moved_text}
@@ -159,18 +159,18 @@ module _ (v : Values) (ss : List Slip) (old mid new : DiskLog) (claimed : Goes (
       (fills.0, fills.1, fills.2, fills.3, free, goes_filled (upgraded v) (all_moved v ss) old mid new claimed fills.4)
   since_claimed (Err Memory) fills =
       inr (goes_begun (λ n. n) (upgraded v) (all_moved v ss) old mid new claimed fills)
-  since_claimed (Err (Migrate store.NotVersion1)) fills =
+  since_claimed (Err (Store store.NotVersion1)) fills =
       (fills.0, free, goes_filled (upgraded v) [] old mid new claimed fills.1)
-  since_claimed (Err (Migrate (store.BadSlip n))) fills =
+  since_claimed (Err (Store (store.BadSlip n))) fills =
       (fills.0, fills.1, free, goes_filled (upgraded v) [] old mid new claimed fills.2)
-  since_claimed (Err (Migrate (store.Disagrees n))) fills = (
+  since_claimed (Err (Store (store.Disagrees n))) fills = (
     fills.0,
     fills.1,
     fills.2,
     free,
     goes_filled (upgraded v) (first_moved v ss (n - 1)) old mid new claimed fills.3,
   )
-  since_claimed (Err (Migrate store.Disk)) fills =
+  since_claimed (Err (Store store.Disk)) fills =
       (fills.0, fills.1, free, goes_begun one_more (upgraded v) (all_moved v ss) old mid new claimed fills.2)
   since_claimed (Err fault) fills = absurd fills
 
@@ -220,12 +220,12 @@ moved_ends d v slips (Err Memory) read (inl same) = record { old = looked_at d v
 moved_ends d v slips (Err Memory) read (inr begun) =
     record { old = looked_at d v slips read; new = inr (slips, read, begun) }
 moved_ends d v slips (Err (Journal fault)) read ends = inr (ends.0, ends.1, (slips, read))
-moved_ends d v slips (Err (Migrate store.NotVersion1)) read ends = (ends.0, (slips, read, ends.1), ends.2)
-moved_ends d v slips (Err (Migrate (store.BadSlip n))) read ends =
+moved_ends d v slips (Err (Store store.NotVersion1)) read ends = (ends.0, (slips, read, ends.1), ends.2)
+moved_ends d v slips (Err (Store (store.BadSlip n))) read ends =
     (slips, record { version = ends.0; read = read; free = ends.2 }, ends.1, ends.3)
-moved_ends d v slips (Err (Migrate (store.Disagrees n))) read ends =
+moved_ends d v slips (Err (Store (store.Disagrees n))) read ends =
     (slips, record { version = ends.0; read = read; free = ends.3 }, ends.1, ends.2, ends.4)
-moved_ends d v slips (Err (Migrate store.Disk)) read ends =
+moved_ends d v slips (Err (Store store.Disk)) read ends =
     (slips, record { version = ends.0; read = read; free = ends.2 }, ends.1, ends.3)
 moved_ends d v slips (Err fault) read ends = absurd ends
 
@@ -253,7 +253,7 @@ leaves_none : (d : MigrateDisks) (v : Values) (fault : CliFault) (l : WireLog) �
     → LeavesStudy (migrate_task d) v (Err fault) l l
 leaves_none d v Memory l ends = leaves_nothing (migrate_task d) v Memory l refl refl
 leaves_none d v (Journal fault) l ends = leaves_nothing (migrate_task d) v (Journal fault) l refl (ends, refl)
-leaves_none d v (Migrate fault) l ends = leaves_nothing (migrate_task d) v (Migrate fault) l refl (ends, refl)
+leaves_none d v (Store fault) l ends = leaves_nothing (migrate_task d) v (Store fault) l refl (ends, refl)
 leaves_none d v fault l ends = absurd ends
 
 module _ (plan : Option Place) (d : MigrateDisks) (v : Values) (old mid : WireLog) (given : GivesPlanFrom plan (Ok v) old mid)

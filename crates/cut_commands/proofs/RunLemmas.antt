@@ -11,7 +11,7 @@ use Rattle.cut_commands.specs.Run.{AnswersPlan, CommandAnswers, EndsCommand, Giv
 use Rattle.cut_commands.specs.Run.{IsReadThrough, IsWritten, LeavesStudy, failing, failed_by, read_on, refused_at_sight}
 use Rattle.cut_commands.specs.Task.{Task}
 use Rattle.cut_commands.specs.declared.fault.CliFault.{CliFault}
-use Rattle.cut_commands.specs.declared.fault.CliFault.TheVariants.{Memory, Plan, Read, Write, Journal, BadSlip, Migrate}
+use Rattle.cut_commands.specs.declared.fault.CliFault.TheVariants.{Memory, Plan, Read, Write, Journal, BadSlip, Store}
 use Rattle.cut_commands.specs.declared.fault.CliFault.TheVariants.{Checkpoint, WorkMemory, AuditMismatch}
 use Rattle.cut_wires.proofs.Logs.{wrote_none}
 
@@ -116,7 +116,7 @@ module _ (a b : Task) (text : List ℕ) (weak : Weakens a b) where
   answers_plan_as v (Err Memory) written read is = is
   answers_plan_as v (Err (Journal fault)) written read is = (weak.fails text v (Journal fault) read is.0, is.1)
   answers_plan_as v (Err (BadSlip number)) written read is = (weak.fails text v (BadSlip number) read is.0, is.1)
-  answers_plan_as v (Err (Migrate fault)) written read is = (weak.fails text v (Migrate fault) read is.0, is.1)
+  answers_plan_as v (Err (Store fault)) written read is = (weak.fails text v (Store fault) read is.0, is.1)
   answers_plan_as v (Err WorkMemory) written read is = (
     weak.fails text v WorkMemory read is.0,
     elim is.1 [

@@ -22,7 +22,7 @@ use Rattle.cut_files.specs.declared.files.OpenFault.TheVariants as files
 use Rattle.cut_status.specs.declared.fault.StatusFault.{StatusFault}
 use Rattle.cut_status.specs.declared.fault.StatusFault.TheVariants as status
 use Rattle.cut_commands.specs.declared.fault.CliFault.TheVariants.{Memory, Plan, Read, Socket, Asked, Write, Journal}
-use Rattle.cut_commands.specs.declared.fault.CliFault.TheVariants.{Folder, BadSlip, Migrate, Checkpoint, WorkMemory}
+use Rattle.cut_commands.specs.declared.fault.CliFault.TheVariants.{Folder, BadSlip, Store, Checkpoint, WorkMemory}
 use Rattle.cut_commands.specs.declared.fault.CliFault.TheVariants.{AuditMismatch}
 use Rattle.cut_messages.specs.FaultCode.{number_of_ask}
 
@@ -37,7 +37,7 @@ number_of (Write fault) = codes_of.number_of code.Write
 number_of (Journal fault) = codes_of.number_of (journal_codes.code_of fault)
 number_of Folder = codes_of.number_of code.Disk
 number_of (BadSlip number) = codes_of.number_of code.BadSlip
-number_of (Migrate fault) = codes_of.number_of (journal_codes.code_of_store fault)
+number_of (Store fault) = codes_of.number_of (journal_codes.code_of_store fault)
 number_of Checkpoint = codes_of.number_of code.Checkpoint
 number_of WorkMemory = codes_of.number_of code.WorkMemory
 number_of AuditMismatch = codes_of.number_of code.AuditMismatch
@@ -65,8 +65,8 @@ carried_by (Plan refusal) = field_words (field_of_refusal refusal)
 carried_by (Write fault) = 32 ∷ decimal fault.sent
 carried_by (Journal (journal.Damaged number)) = 32 ∷ decimal number
 carried_by (BadSlip number) = 32 ∷ decimal number
-carried_by (Migrate (store.BadSlip number)) = 32 ∷ decimal number
-carried_by (Migrate (store.Disagrees number)) = 32 ∷ decimal number
+carried_by (Store (store.BadSlip number)) = 32 ∷ decimal number
+carried_by (Store (store.Disagrees number)) = 32 ∷ decimal number
 carried_by fault = []
 
 -- the fault as it is printed
@@ -105,7 +105,7 @@ IsRefusalOfNew fault = ⊥
 -- the fault of the program if slips were not all stored
 abbrev pub fault_of_store : StoreFault → CliFault
 fault_of_store store.Memory = Memory
-fault_of_store fault = Migrate fault
+fault_of_store fault = Store fault
 
 -- the fault of the program if a study was not run to its end
 abbrev pub fault_of_study : RunFault → CliFault

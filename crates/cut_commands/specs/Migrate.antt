@@ -28,7 +28,7 @@ use Rattle.cut_commands.specs.Faults.{IsRefusalOfNew, IsRefusalOfOld, fault_of_f
 use Rattle.cut_commands.specs.NewStudy.{IsBegun, IsFilled}
 use Rattle.cut_commands.specs.Run.{CommandAnswers, EndsRead, GivesPlanFrom, HasUnread, plan_place}
 use Rattle.cut_commands.specs.declared.fault.CliFault.{CliFault}
-use Rattle.cut_commands.specs.declared.fault.CliFault.TheVariants.{Memory, Plan, Read, Journal, Migrate}
+use Rattle.cut_commands.specs.declared.fault.CliFault.TheVariants.{Memory, Plan, Read, Journal, Store}
 
 -- the line that says how many slips were moved
 unfoldable pub moved_text : ℕ → List ℕ
@@ -110,7 +110,7 @@ IsNotReady d v fault =
 
 abbrev pub MigrateFails : MigrateDisks → Values → CliFault → Type 0
 MigrateFails d v (Journal fault) = IsNotReady d v fault
-MigrateFails d v (Migrate fault) = StopsBy d v fault
+MigrateFails d v (Store fault) = StopsBy d v fault
 MigrateFails d v fault = ⊥
 
 abbrev pub migrate_task : MigrateDisks → Task

@@ -10,7 +10,7 @@ use Rattle.cut_journal.specs.Opening.{IsNotClaimed, is_unclaimed}
 use Rattle.cut_journal.specs.Reading.{reading}
 use Rattle.cut_journal.specs.declared.store_fault.StoreFault.TheVariants as store
 use Rattle.cut_commands.specs.declared.fault.CliFault.{CliFault}
-use Rattle.cut_commands.specs.declared.fault.CliFault.TheVariants.{Memory, Journal, Migrate}
+use Rattle.cut_commands.specs.declared.fault.CliFault.TheVariants.{Memory, Journal, Store}
 
 -- bytes say no study, or some first ones of these slips
 abbrev pub SaysFirstOf : Values → List Slip → List ℕ → Type 0
@@ -59,7 +59,7 @@ pub record IsFilled (v : Values) (slips : List Slip) (old new : DiskState) : Typ
 abbrev pub LeavesUnfilled : CliFault → Values → List Slip → DiskState → DiskState → Type 0
 LeavesUnfilled Memory v slips old new = (new ≡ old) ⊎ IsBegun v slips old new
 LeavesUnfilled (Journal fault) v slips old new = IsNotClaimed v fault old new
-LeavesUnfilled (Migrate fault) v slips old new = IsBegun v slips old new
+LeavesUnfilled (Store fault) v slips old new = IsBegun v slips old new
 LeavesUnfilled fault v slips old new = ⊥
 
 -- and by how the writing ended: all are there, or not
@@ -70,7 +70,7 @@ LeavesNew (Err fault) v slips old new = LeavesUnfilled fault v slips old new
 -- how many calls of the disk failed after that: one more exactly if the fault is one of the disk
 abbrev pub failing_calls : CliFault → ℕ → ℕ
 failing_calls (Journal Disk) n = one_more n
-failing_calls (Migrate store.Disk) n = one_more n
+failing_calls (Store store.Disk) n = one_more n
 failing_calls fault n = n
 
 abbrev pub writing_faults : {T : Type 0} → Result T CliFault → ℕ → ℕ

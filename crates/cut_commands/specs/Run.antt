@@ -21,7 +21,7 @@ use Rattle.cut_commands.specs.Faults.{fault_of_files}
 use Rattle.cut_commands.specs.Check.{canonical_line, check_text}
 use Rattle.cut_commands.specs.Task.{Task}
 use Rattle.cut_commands.specs.declared.fault.CliFault.{CliFault}
-use Rattle.cut_commands.specs.declared.fault.CliFault.TheVariants.{Memory, Plan, Read, Write, Journal, BadSlip, Migrate}
+use Rattle.cut_commands.specs.declared.fault.CliFault.TheVariants.{Memory, Plan, Read, Write, Journal, BadSlip, Store}
 use Rattle.cut_commands.specs.declared.fault.CliFault.TheVariants.{Checkpoint, WorkMemory, AuditMismatch}
 
 -- ---- reading
@@ -69,7 +69,7 @@ AnswersPlan task v (Err (Write fault)) written =
 AnswersPlan task v (Err Memory) written = written ≡ []
 AnswersPlan task v (Err (Journal fault)) written = task.fails v (Journal fault) × (written ≡ [])
 AnswersPlan task v (Err (BadSlip number)) written = task.fails v (BadSlip number) × (written ≡ [])
-AnswersPlan task v (Err (Migrate fault)) written = task.fails v (Migrate fault) × (written ≡ [])
+AnswersPlan task v (Err (Store fault)) written = task.fails v (Store fault) × (written ≡ [])
 AnswersPlan task v (Err WorkMemory) written =
     task.fails v WorkMemory × ((written ≡ []) ⊎ IsPrefix task v written)
 AnswersPlan task v (Err Checkpoint) written = task.fails v Checkpoint × IsPrefix task v written

@@ -42,7 +42,7 @@ pub enum CliFault {
     /// The slip of this number in the checkpoint, from 1, is not a slip of the plan.
     BadSlip(u64),
     /// The slips of checkpoints were not all stored in another one.
-    Migrate(StoreFault),
+    Store(StoreFault),
     /// The checkpoint took no more.
     Checkpoint,
     /// A running study got no more memory.
@@ -65,7 +65,7 @@ impl CliFault {
             CliFault::Journal(fault) => fault.code(),
             CliFault::Folder => FaultCode::Disk,
             CliFault::BadSlip(_) => FaultCode::BadSlip,
-            CliFault::Migrate(fault) => fault.code(),
+            CliFault::Store(fault) => fault.code(),
             CliFault::Checkpoint => FaultCode::Checkpoint,
             CliFault::WorkMemory => FaultCode::WorkMemory,
             CliFault::AuditMismatch => FaultCode::AuditMismatch,
@@ -113,14 +113,14 @@ impl CliFault {
             CliFault::Plan(refusal) => push_field(&mut text, refusal.field()),
             CliFault::Write(Sent { sent: number })
             | CliFault::BadSlip(number)
-            | CliFault::Migrate(StoreFault::BadSlip(number) | StoreFault::Disagrees(number))
+            | CliFault::Store(StoreFault::BadSlip(number) | StoreFault::Disagrees(number))
             | CliFault::Journal(JournalFault::Damaged(number)) => push_number(&mut text, *number),
             CliFault::Memory
             | CliFault::Read
             | CliFault::Socket
             | CliFault::Asked(_)
             | CliFault::Journal(_)
-            | CliFault::Migrate(_)
+            | CliFault::Store(_)
             | CliFault::Folder
             | CliFault::Checkpoint
             | CliFault::WorkMemory
@@ -212,7 +212,7 @@ impl From<StoreFault> for CliFault {
     fn from(fault: StoreFault) -> CliFault {
         match fault {
             StoreFault::Memory => CliFault::Memory,
-            fault => CliFault::Migrate(fault),
+            fault => CliFault::Store(fault),
         }
     }
 }

@@ -12,7 +12,7 @@ use Rattle.cut_wires.specs.Log.{WireLog}
 use Rattle.cut_commands.specs.Run.{GivesPlanFrom, HasUnread, IsReadAs, IsWritten, LeavesStudy}
 use Rattle.cut_commands.specs.Faults.{fault_of_files}
 use Rattle.cut_commands.specs.declared.fault.CliFault.{CliFault}
-use Rattle.cut_commands.specs.declared.fault.CliFault.TheVariants.{Memory, Plan, Read, Write, Journal, BadSlip, Migrate}
+use Rattle.cut_commands.specs.declared.fault.CliFault.TheVariants.{Memory, Plan, Read, Write, Journal, BadSlip, Store}
 use Rattle.cut_commands.proofs.RunLemmas.{leaves_answer, leaves_nothing}
 use Rattle.cut_commands.proofs.Sources.{ends_read}
 use Rattle.cut_machines.specs.JoinCommand.{AreUntouched, EndsJoinFrom, JoinFiles, JoinWrites, LeavesOther}
@@ -53,8 +53,8 @@ module _ (plan : Option Place) (files : JoinFiles) (known : is_known files.back 
       (leaves_nothing _ v (Journal fault) new refl (stops, refl), (v, (given, named)), tt)
   stopped v (BadSlip n) refused old new given stops named =
       (leaves_nothing _ v (BadSlip n) new refl (stops, refl), named, tt)
-  stopped v (Migrate fault) refused old new given stops named =
-      (leaves_nothing _ v (Migrate fault) new refl (stops, refl), named, tt)
+  stopped v (Store fault) refused old new given stops named =
+      (leaves_nothing _ v (Store fault) new refl (stops, refl), named, tt)
   stopped v fault refused old new given (inl reading) named = absurd reading.0
   stopped v fault refused old new given (inr writing) named = absurd writing.0
 

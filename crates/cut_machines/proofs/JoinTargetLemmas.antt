@@ -15,7 +15,7 @@ use Rattle.cut_journal.specs.Opening.{IsClaimed, IsNotClaimed, MayNotClaim}
 use Rattle.cut_shares.specs.join.Joined.{joined}
 use Rattle.cut_shares.specs.join.Joining.{EndsJoin}
 use Rattle.cut_commands.specs.declared.fault.CliFault.{CliFault}
-use Rattle.cut_commands.specs.declared.fault.CliFault.TheVariants.{Memory, Migrate}
+use Rattle.cut_commands.specs.declared.fault.CliFault.TheVariants.{Memory, Store}
 use Rattle.cut_commands.specs.Faults.{fault_of_journal, fault_of_store}
 use Rattle.cut_commands.specs.NewStudy.{HasPart, IsNewJournal, writing_faults}
 use Rattle.cut_commands.proofs.NewStudies.{AreFirst, GoesOn, first_added, goes_all, goes_begun, goes_filled, goes_part}
@@ -65,7 +65,7 @@ left_filled (Ok n) v ss old mid new claimed fills = goes_filled v (joined v ss) 
 left_filled (Err Memory) v ss old mid new claimed fills =
     let goes = goes_begun (λ n. n) v (joined v ss) old mid new claimed fills in
     record { known = goes.known; state = λ known. inr (goes.state known); faults = goes.faults }
-left_filled (Err (Migrate store.Disk)) v ss old mid new claimed fills =
+left_filled (Err (Store store.Disk)) v ss old mid new claimed fills =
     goes_begun one_more v (joined v ss) old mid new claimed fills
 left_filled (Err fault) v ss old mid new claimed fills = absurd fills
 
@@ -75,7 +75,7 @@ pub filled_ends : (result : Result ℕ CliFault) (v : Values) (ss : List Slip) (
     → IfOk result (λ n. n ≡ length (joined v ss)) × IfErr result StopsWriting
 filled_ends (Ok n) v ss mid new fills = (fills.0, tt)
 filled_ends (Err Memory) v ss mid new fills = (tt, tt)
-filled_ends (Err (Migrate store.Disk)) v ss mid new fills = (tt, tt)
+filled_ends (Err (Store store.Disk)) v ss mid new fills = (tt, tt)
 filled_ends (Err fault) v ss mid new fills = absurd fills
 
 pub left_unclaimed : (fault : JournalFault) (v : Values) (ss : List Slip) (old new : DiskLog) → MayNotClaim fault

@@ -8,7 +8,7 @@ use Rattle.cut_journal.specs.declared.store_fault.StoreFault.TheVariants as stor
 use Rattle.cut_commands.specs.Faults.{IsRefusalOfNew}
 use Rattle.cut_commands.specs.NewStudy.{LeavesNew}
 use Rattle.cut_commands.specs.declared.fault.CliFault.{CliFault}
-use Rattle.cut_commands.specs.declared.fault.CliFault.TheVariants.{Memory, Journal, Migrate}
+use Rattle.cut_commands.specs.declared.fault.CliFault.TheVariants.{Memory, Journal, Store}
 
 -- by how the writing of the joined slips ended: all are there, or not
 abbrev pub LeavesDisk : {T : Type 0} → Result T CliFault → Values → List Slip → DiskState → DiskState → Type 0
@@ -18,5 +18,5 @@ LeavesDisk result v slips old new = LeavesNew result v (joined v slips) old new
 abbrev pub StopsWriting : CliFault → Type 0
 StopsWriting Memory = ⊤
 StopsWriting (Journal fault) = IsRefusalOfNew fault
-StopsWriting (Migrate store.Disk) = ⊤
+StopsWriting (Store store.Disk) = ⊤
 StopsWriting fault = ⊥

@@ -64,7 +64,7 @@ struct Answered<N, T> {
 /// The old files are read in their order, and their slips are judged as one list, each by its number in that list,
 /// before anything is done to the new file. Then a study is made there, which has to hold none, and gets one slip for
 /// each longest run of adjacent trials of a cell. A fault of an earlier step is reported before one of a later: Journal
-/// by an old file, BadSlip, Journal by the new file, and then Migrate, which is a disk that failed while slips were
+/// by an old file, BadSlip, Journal by the new file, and then Store, which is a disk that failed while slips were
 /// written. What is read from the wire and written to it, and each fault of it, is as in `run_io`.
 ///
 /// If it is an old file that is refused, `refused` is its place among them, from 1. The fault is one of a journal then;

@@ -8,7 +8,7 @@ use Rattle.cut_wires.specs.Log.{WireLog, wrote, write_failed}
 use Rattle.cut_slots.specs.Report.{IsAcceptedCount, SlotEnd, accepted_recorded}
 use Rattle.cut_commands.specs.declared.fault.CliFault.{CliFault}
 use Rattle.cut_commands.specs.declared.fault.CliFault.TheVariants.{Memory, Plan, Read, Socket, Asked, Write, Journal}
-use Rattle.cut_commands.specs.declared.fault.CliFault.TheVariants.{Folder, BadSlip, Migrate, Checkpoint, WorkMemory}
+use Rattle.cut_commands.specs.declared.fault.CliFault.TheVariants.{Folder, BadSlip, Store, Checkpoint, WorkMemory}
 use Rattle.cut_commands.specs.declared.fault.CliFault.TheVariants.{AuditMismatch}
 use Rattle.cut_server.specs.Serve.{AreAccepted, EndsServing, IsReport, WritesReport, accepted_in_all, accepted_line}
 
@@ -58,5 +58,5 @@ ends_faulty studies Read old new writes = absurd writes
 ends_faulty studies (Asked fault) old new writes = absurd writes
 ends_faulty studies (Journal fault) old new writes = absurd writes
 ends_faulty studies (BadSlip number) old new writes = absurd writes
-ends_faulty studies (Migrate fault) old new writes = absurd writes
+ends_faulty studies (Store fault) old new writes = absurd writes
 ends_faulty studies Checkpoint old new writes = absurd writes

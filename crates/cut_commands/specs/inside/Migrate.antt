@@ -19,7 +19,7 @@ use Rattle.cut_commands.specs.Migrate.{IsFree, all_moved, moved_text}
 use Rattle.cut_commands.specs.NewStudy.{HasAll, HasPart, IsBegun, IsFilled}
 use Rattle.cut_commands.specs.Run.{IsWritten}
 use Rattle.cut_commands.specs.declared.fault.CliFault.{CliFault}
-use Rattle.cut_commands.specs.declared.fault.CliFault.TheVariants.{Memory, Journal, Migrate}
+use Rattle.cut_commands.specs.declared.fault.CliFault.TheVariants.{Memory, Journal, Store}
 
 -- why an old disk says no slips, and what is left of it
 abbrev pub IsOldRefused : CliFault → Values → DiskLog → DiskLog → Type 0
@@ -33,14 +33,14 @@ Fills (Ok n) v ss old new =
     (n ≡ length ss) × (version_of v.failing ≡ One) × AreGood v ss × AreTrueUpTo v ss (length ss)
     × Goes (λ n. n) (HasAll (upgraded v) (all_moved v ss)) old new
 Fills (Err Memory) v ss old new = Goes (λ n. n) (HasPart (upgraded v) (all_moved v ss)) old new
-Fills (Err (Migrate store.NotVersion1)) v ss old new =
+Fills (Err (Store store.NotVersion1)) v ss old new =
     (version_of v.failing ≡ Two) × Goes (λ n. n) (HasAll (upgraded v) []) old new
-Fills (Err (Migrate (store.BadSlip n))) v ss old new =
+Fills (Err (Store (store.BadSlip n))) v ss old new =
     (version_of v.failing ≡ One) × IsFirstBad v ss n × Goes (λ n. n) (HasAll (upgraded v) []) old new
-Fills (Err (Migrate (store.Disagrees n))) v ss old new =
+Fills (Err (Store (store.Disagrees n))) v ss old new =
     (version_of v.failing ≡ One) × AreGood v ss × IsFirstUntrue v ss n
     × Goes (λ n. n) (HasAll (upgraded v) (first_moved v ss (n - 1))) old new
-Fills (Err (Migrate store.Disk)) v ss old new =
+Fills (Err (Store store.Disk)) v ss old new =
     (version_of v.failing ≡ One) × AreGood v ss × Goes one_more (HasPart (upgraded v) (all_moved v ss)) old new
 Fills (Err fault) v ss old new = ⊥
 
@@ -53,14 +53,14 @@ EndsFilling (Err Memory) v ss old new =
     Goes (λ n. n) (λ old new. new ≡ old) old new ⊎ Goes (λ n. n) (IsBegun (upgraded v) (all_moved v ss)) old new
 EndsFilling (Err (Journal fault)) v ss old new =
     IsRefusalOfNew fault × Goes (fault_counts fault) (IsNotClaimed (upgraded v) fault) old new
-EndsFilling (Err (Migrate store.NotVersion1)) v ss old new =
+EndsFilling (Err (Store store.NotVersion1)) v ss old new =
     (version_of v.failing ≡ Two) × IsFree old × Goes (λ n. n) (IsFilled (upgraded v) []) old new
-EndsFilling (Err (Migrate (store.BadSlip n))) v ss old new =
+EndsFilling (Err (Store (store.BadSlip n))) v ss old new =
     (version_of v.failing ≡ One) × IsFirstBad v ss n × IsFree old × Goes (λ n. n) (IsFilled (upgraded v) []) old new
-EndsFilling (Err (Migrate (store.Disagrees n))) v ss old new =
+EndsFilling (Err (Store (store.Disagrees n))) v ss old new =
     (version_of v.failing ≡ One) × AreGood v ss × IsFirstUntrue v ss n × IsFree old
     × Goes (λ n. n) (IsFilled (upgraded v) (first_moved v ss (n - 1))) old new
-EndsFilling (Err (Migrate store.Disk)) v ss old new =
+EndsFilling (Err (Store store.Disk)) v ss old new =
     (version_of v.failing ≡ One) × AreGood v ss × IsFree old
     × Goes one_more (IsBegun (upgraded v) (all_moved v ss)) old new
 EndsFilling (Err fault) v ss old new = ⊥

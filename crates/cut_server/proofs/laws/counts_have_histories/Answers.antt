@@ -1,7 +1,7 @@
 use Rattle.std.proofs.Common.{◌≡◌, ◌∙◌, ◌<◌, ℕ, List, Ok, Err, length, take, sym, ap, subst}
 use Rattle.cut_wires.specs.Log.{wrote, write_failed}
 use Rattle.cut_commands.specs.declared.fault.CliFault.TheVariants.{Memory, Plan, Read, Socket, Asked, Write, Journal}
-use Rattle.cut_commands.specs.declared.fault.CliFault.TheVariants.{Folder, BadSlip, Migrate, Checkpoint, WorkMemory}
+use Rattle.cut_commands.specs.declared.fault.CliFault.TheVariants.{Folder, BadSlip, Store, Checkpoint, WorkMemory}
 use Rattle.cut_commands.specs.declared.fault.CliFault.TheVariants.{AuditMismatch}
 use Rattle.cut_server.specs.Histories.{CountsHaveHistories}
 use Rattle.cut_server.specs.Serve.{AreAccepted, IsReport, accepted_line}
@@ -40,7 +40,7 @@ histories studies (Err Read) old new is = absurd is.1.1
 histories studies (Err (Asked fault)) old new is = absurd is.1.1
 histories studies (Err (Journal fault)) old new is = absurd is.1.1
 histories studies (Err (BadSlip number)) old new is = absurd is.1.1
-histories studies (Err (Migrate fault)) old new is = absurd is.1.1
+histories studies (Err (Store fault)) old new is = absurd is.1.1
 histories studies (Err Checkpoint) old new is = absurd is.1.1
 
 pub returns : goal.returns
