@@ -1,5 +1,6 @@
 ghost use Rattle.std.proofs.Props.{props};
 ghost use Rattle.std.specs.Prelude.{false, Some, Ok, ◌≡◌, ◌+◌, ◌<◌, ◌≤◌, length, All, IfOk, IfErr, OnOk};
+ghost use Rattle.atomic_table.specs.Seated.{TableId};
 ghost use Rattle.cut_plan.specs.Cells.{cells_of};
 ghost use Rattle.cut_ledger.specs.Table.{table_over};
 ghost use Rattle.cut_ledger.specs.Slips.{AreGood};
@@ -206,12 +207,7 @@ impl<M: CallLedger> WorkerPasses<M> {
             hall.stop(rt);
             emit_result_of(outcome, counting.sent())
         };
-        let mut work = ||
-            requires { (0 < hall.now.slots) × All (λ p. p.hall ≡ hall.now.id) others.now.items }
-            ensures { All (λ p. p.hall ≡ hall.entry.now.id) others.exit.now.items }
-        { work_off_all(&WorkEnv { rt, alloc, gate }, hall, others) };
-        let (_, sent) = join_mut(rt, &mut work, &mut write);
-        sent
+        work_beside(env, hall, others, &mut write)
     }
 
     /// Closes a hall with the passes of its workers. Passes are missing only if memory ran out.
@@ -242,34 +238,89 @@ impl<M: CallLedger> WorkerPasses<M> {
     }
 }
 
-/// Lets each pass work on the pieces of the first study, in a thread of its own where one can be made, until none
-/// are left to be drawn. If no thread can be made, they find nothing left to do once the table is written. Where memory
-/// is refused the passes are gone, and the thread that writes does their work.
-fn work_off_all<D, M, K, G, R>(
-    env: &WorkEnv<'_, R, G>,
-    hall: &Hall<D, M, K>,
-    passes: &mut Vec<Pass<M>>,
-)
+/// A hall as the threads of workers share it.
+trait Workplace {
+    /// The ledger of the calls that its passes make.
+    type Made: CallLedger + Send + Sync;
+
+    /// Which hall it is.
+    ghost id_of: { Self → TableId };
+
+    /// That it has a slot.
+    ghost has_slot: { Self → Type 0 };
+
+    /// Works on the pieces of the first study until none are left to be drawn.
+    fn work_off_first<G: Gate, R: Wait>(&self, env: &WorkEnv<'_, R, G>, pass: &mut Pass<Self::Made>)
+        requires own { pass.old.hall ≡ id_of self.now }
+        requires slot { has_slot self.now }
+        ensures { pass.new.hall ≡ pass.old.hall };
+}
+
+impl<D, M, K> Workplace for Hall<D, M, K>
 where
-    D: Disk + Drop + Send,
+    D: Disk + Drop,
     M: CallLedger + Send + Sync,
-    K: CallLedger + Send + Sync,
+    K: CallLedger,
+{
+    type Made = M;
+
+    ghost id_of = { λ h. h.id };
+
+    ghost has_slot = { λ h. 0 < h.slots };
+
+    fn work_off_first<G: Gate, R: Wait>(&self, env: &WorkEnv<'_, R, G>, pass: &mut Pass<M>) {
+        self.work_off(env, pass, 0);
+    }
+}
+
+/// Lets each pass work in a thread of its own, and writes in this one meanwhile. If no thread can be made, they find
+/// nothing left to do once it has written.
+fn work_beside<S, G, R, F>(
+    env: &WorkEnv<'_, R, G>,
+    hall: &S,
+    passes: &mut Vec<Pass<S::Made>>,
+    write: &mut F,
+) -> Result<u64, EmitFault>
+where
+    S: Workplace + Sync,
     G: Gate + Sync,
     R: Threads + Wait + Sync,
-    requires slot { 0 < hall.now.slots }
-    requires own { All (λ p. p.hall ≡ hall.now.id) passes.old.items }
-    ensures { All (λ p. p.hall ≡ hall.now.id) passes.new.items }
+    F: FnMut() -> Result<u64, EmitFault>,
+    requires slot { S.has_slot hall.now }
+    requires own { All (λ p. p.hall ≡ S.id_of hall.now) passes.old.items }
+    requires write { F.pre write.old }
+    ensures own { All (λ p. p.hall ≡ S.id_of hall.now) passes.new.items }
+    ensures write { F.step write.old result write.new }
 {
     let WorkEnv { rt, alloc, gate } = *env;
+    let mut work = ||
+        requires { S.has_slot hall.now × All (λ p. p.hall ≡ S.id_of hall.now) passes.now.items }
+        ensures { All (λ p. p.hall ≡ S.id_of hall.entry.now) passes.exit.now.items }
+    { work_off_all(rt, alloc, hall, gate, passes) };
+    let (_, written) = join_mut(rt, &mut work, write);
+    written
+}
+
+/// Lets each pass work on the pieces of the first study, in a thread of its own where one can be made, until none
+/// are left to be drawn. Where memory is refused the passes are gone, and the thread that writes does their work.
+fn work_off_all<S, G, R>(rt: &R, alloc: Global, hall: &S, gate: &G, passes: &mut Vec<Pass<S::Made>>)
+where
+    S: Workplace + Sync,
+    G: Gate + Sync,
+    R: Threads + Wait + Sync,
+    requires slot { S.has_slot hall.now }
+    requires own { All (λ p. p.hall ≡ S.id_of hall.now) passes.old.items }
+    ensures { All (λ p. p.hall ≡ S.id_of hall.now) passes.new.items }
+{
     let waiting = mem::replace(passes, Vec::new(alloc));
     let worked = thread::map_vec(
         rt,
         waiting,
-        &|mut pass: Pass<M>| -> Pass<M>
-            requires { (0 < hall.now.slots) × (pass.hall ≡ hall.now.id) }
-            ensures { result.hall ≡ hall.entry.now.id }
+        &|mut pass: Pass<S::Made>| -> Pass<S::Made>
+            requires { S.has_slot hall.now × (pass.hall ≡ S.id_of hall.now) }
+            ensures { result.hall ≡ S.id_of hall.entry.now }
         {
-            hall.work_off(&WorkEnv { rt, alloc, gate }, &mut pass, 0);
+            hall.work_off_first(&WorkEnv { rt, alloc, gate }, &mut pass);
             pass
         },
     );
