@@ -4,6 +4,7 @@ use Rattle.std.proofs.Common.{Ok, Option, Some, None, unwrap_or, length, take, d
 use Rattle.std.proofs.Common.{arith, append_assoc, length-append, length-drop}
 use Rattle.std.specs.Bool.{⊤}
 use Rattle.std.specs.Result.{is_ok}
+use Rattle.std.proofs.lemmas.Bool.{cases_Bool}
 use Rattle.std.proofs.lemmas.Bool.Decides.{nat_tests, Decides-eqb}
 use Rattle.std.proofs.lemmas.List.{take_at, drop_at, take_all, length-take, get_or-append_right, get_or-drop}
 use Rattle.sha2.proofs.Facts256.{length-sha256}
@@ -20,7 +21,7 @@ use Rattle.cut_journal.specs.inside.Steps.{HasNumbers, WritesThrough, Leave}
 use Rattle.cut_journal.proofs.Counts.{alike_at, alike_prefix}
 use Rattle.cut_journal.proofs.Gates.{gate_next}
 use Rattle.cut_journal.proofs.Moments.{Through, through_is, settled_images}
-use Rattle.cut_journal.proofs.Readings.{Holds, gate_there, reads_holds, cases_bool, closed_read, opened_read}
+use Rattle.cut_journal.proofs.Readings.{Holds, gate_there, reads_holds, closed_read, opened_read}
 use Rattle.cut_journal.proofs.SlipBytes.{long_bytes, slip_back, slip_whole}
 use Rattle.cut_journal.specs.inside.Places.{body_at, first_slips, gate_place, is_open}
 
@@ -165,7 +166,7 @@ second_step {E} result v n slip old mid new stay sound fits reports wrote durabl
     let torn = λ (image : List ℕ) (t : IsTorn g (g + 1) mid.bytes image). second_torn v n old.bytes image slip ready.0
     fits reports (subst (λ (b : List ℕ). IsTorn g (g + 1) b image) wrote t) in
     let reads = λ (image : List ℕ) (t : IsTorn g (g + 1) mid.bytes image).
-    (let holds : P image = elim (cases_bool (is_open v image n)) [
+    (let holds : P image = elim (cases_Bool (is_open v image n)) [
       | inl opens ↦ inr (
         slip,
         (

@@ -1,25 +1,19 @@
 -- What is left of a disk that was not claimed.
 use Rattle.std.proofs.Common.{◌≡◌, ◌&&◌, ◌∙◌, ◌⊎◌, inl, inr, ℕ, Bool, true, false, not, List, Err}
 use Rattle.std.proofs.Common.{refl, sym, ap, subst, arith}
+use Rattle.std.proofs.lemmas.Bool.{false_from_ne_true, true_from_ne_false}
 use Rattle.std.proofs.lemmas.Bool.Decides.{nat_tests}
 use Rattle.cut_plan.specs.Values.{Values}
 use Rattle.cut_disks.specs.State.{DiskState, Throughout, synced}
 use Rattle.cut_disks.specs.Log.{DiskLog, Goes, on}
 use Rattle.cut_journal.specs.declared.fault.JournalFault.{JournalFault}
-use Rattle.cut_journal.specs.declared.fault.JournalFault.TheVariants.{Memory, Disk, Broken, NoStudy, OtherPlan, Damaged}
-use Rattle.cut_journal.specs.declared.fault.JournalFault.TheVariants.{Held}
+use Rattle.cut_journal.specs.declared.fault.JournalFault.TheVariants.{Memory, Disk, NoStudy, Held}
 use Rattle.cut_journal.specs.Reading.{is_study, reading}
 use Rattle.cut_journal.specs.Opening.{IsNotClaimed, IsNotMade, IsBegunFile, IsNewStudy, IsOpening, IsOpenFault, is_foreign}
 use Rattle.cut_journal.specs.Opening.{is_unclaimed, IsNotOpened, IsRefused}
 use Rattle.cut_journal.specs.Journal.{fault_counts}
 use Rattle.cut_journal.proofs.Makings.{closed_none, short_none}
 use Rattle.cut_journal.proofs.Readings.{none_read, some_read}
-
-unclaimed_from : (study unclaimed : Bool) → (not study && not unclaimed) ≡ false → (study ≡ true → ⊥)
-    → unclaimed ≡ true
-unclaimed_from study true known other = refl
-unclaimed_from false false known other = sym known
-unclaimed_from true false known other = absurd (other refl)
 
 -- an unclaimed file holds no study
 pub unclaimed_none : (bytes : List ℕ) → is_unclaimed bytes ≡ true → is_study bytes ≡ false
@@ -29,33 +23,19 @@ unclaimed_none bytes is = grind (arith, nat_tests, closed_none, short_none)
 pub left_unclaimed : (v : Values) (bytes : List ℕ) → is_foreign bytes ≡ false → reading v bytes ≡ Err NoStudy
     → is_unclaimed bytes ≡ true
 left_unclaimed v bytes known none =
-    unclaimed_from (is_study bytes) (is_unclaimed bytes) known (λ is. some_read v bytes is none)
-
-differ : true ≡ false → ⊥
-differ is = grind (arith, nat_tests)
-
-is_none : (study : Bool) → (study ≡ true → ⊥) → study ≡ false
-is_none true other = absurd (other refl)
-is_none false other = refl
-
-is_some : (study : Bool) → (study ≡ false → ⊥) → study ≡ true
-is_some true other = refl
-is_some false other = absurd (other refl)
+    grind (arith, some_read)
 
 pub not_claimed : (v : Values) (fault : JournalFault) (old new : DiskState) → is_foreign old.bytes ≡ false
     → IsNotMade v fault old new → IsNotClaimed v fault old new
 not_claimed v Held old new known made =
-    (is_some (is_study old.bytes) (λ none. made.0 (none_read v old.bytes none)), made.1)
+    (true_from_ne_false (is_study old.bytes) (λ none. made.0 (none_read v old.bytes none)), made.1)
 not_claimed v Memory old new known made = made
 not_claimed v Disk old new known made = (
   λ is. made.0 (none_read v old.bytes (unclaimed_none old.bytes is)),
   λ is. made.1 (some_read v old.bytes is),
-  λ is. absurd (differ (sym is ∙ known)),
+  λ is. absurd (cc),
 )
-not_claimed v Broken old new known made = absurd made
-not_claimed v NoStudy old new known made = absurd made
-not_claimed v OtherPlan old new known made = absurd made
-not_claimed v (Damaged number) old new known made = absurd made
+not_claimed v fault old new known made = absurd made
 
 -- ---- an opening, where there is no study
 
@@ -63,10 +43,10 @@ foreign_or : (study unclaimed : Bool) → study ≡ false
     → (unclaimed ≡ true) ⊎ ((not study && not unclaimed) ≡ true)
 foreign_or study true none = inl refl
 foreign_or false false none = inr refl
-foreign_or true false none = absurd (differ none)
+foreign_or true false none = absurd (cc)
 
 no_study : (v : Values) (bytes : List ℕ) → reading v bytes ≡ Err NoStudy → is_study bytes ≡ false
-no_study v bytes none = is_none (is_study bytes) (λ is. some_read v bytes is none)
+no_study v bytes none = false_from_ne_true (is_study bytes) (λ is. some_read v bytes is none)
 
 pub refused_so : (v : Values) (fault : JournalFault) (old mid new : DiskState) → mid ≡ synced old
     → reading v old.bytes ≡ Err NoStudy → IsNotClaimed v fault mid new → IsOpenFault v old.bytes fault
@@ -75,9 +55,7 @@ refused_so v Disk old mid new so none made = tt
 refused_so v NoStudy old mid new so none made = subst (λ (d : DiskState). is_foreign d.bytes ≡ true) so made.0
 refused_so v Held old mid new so none made =
     absurd (some_read v old.bytes (subst (λ (d : DiskState). is_study d.bytes ≡ true) so made.0) none)
-refused_so v Broken old mid new so none made = absurd made
-refused_so v OtherPlan old mid new so none made = absurd made
-refused_so v (Damaged number) old mid new so none made = absurd made
+refused_so v fault old mid new so none made = absurd made
 
 begun_so : (v : Values) (old mid new : DiskState) → mid ≡ synced old → is_unclaimed old.bytes ≡ true
     → IsBegunFile v mid new → IsOpening v old new
@@ -100,9 +78,7 @@ left_so v Disk old mid new so none made = failed_so v old mid new so
 left_so v NoStudy old mid new so none made = inr (inl (made.1 ∙ so))
 left_so v Held old mid new so none made =
     absurd (some_read v old.bytes (subst (λ (d : DiskState). is_study d.bytes ≡ true) so made.0) none)
-left_so v Broken old mid new so none made = absurd made
-left_so v OtherPlan old mid new so none made = absurd made
-left_so v (Damaged number) old mid new so none made = absurd made
+left_so v fault old mid new so none made = absurd made
 
 -- an opening that was refused, by its two steps
 pub not_opened : (v : Values) (first fault : JournalFault) (old mid new : DiskLog) → first ≡ NoStudy

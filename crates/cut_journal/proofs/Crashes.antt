@@ -8,14 +8,12 @@ use Rattle.cut_plan.specs.Values.{Values}
 use Rattle.cut_outcome.specs.Computed.{Computed}
 use Rattle.cut_disks.specs.State.{DiskState}
 use Rattle.cut_ledger.specs.declared.slip.Slip.{Slip}
-use Rattle.cut_ledger.specs.declared.event.Event.TheVariants.{Draw, HandIn, HandInDiskFails, Lose, CrashReopen, Emit}
-use Rattle.cut_ledger.specs.declared.event.Event.TheVariants.{WireFails, NewWire, Finish}
+use Rattle.cut_ledger.specs.declared.event.Event.TheVariants.{HandIn, HandInDiskFails, CrashReopen}
 use Rattle.cut_ledger.specs.FaultCode.{code_of}
 use Rattle.cut_ledger.specs.Machine.{StudyState, after, opened, slip_of, slips_found, some_slip, refused_code}
 use Rattle.cut_ledger.specs.Machine.{unless_refused, taken, failed}
 use Rattle.cut_ledger.specs.Refusals.{refusal_of}
-use Rattle.cut_journal.specs.declared.fault.JournalFault.TheVariants.{Memory, Disk, Broken, NoStudy, OtherPlan, Damaged}
-use Rattle.cut_journal.specs.declared.fault.JournalFault.TheVariants.{Held}
+use Rattle.cut_journal.specs.declared.fault.JournalFault.TheVariants.{Disk}
 use Rattle.cut_journal.specs.Journal.{JournalValue, kept_slips, ReadsAs}
 use Rattle.cut_journal.specs.Laws.{IsJournalOf, IsResumed, CrashesBetweenCalls, CrashesInAppends, AppendsFollow}
 use Rattle.cut_journal.specs.Laws.{OpeningsFollow, OtherEventsFollow}
@@ -131,13 +129,7 @@ follows (Err Disk) r old new before now s of fine broken left kept =
     } in
     subst (λ (x : StudyState). IsJournalOf new.plan new.count new.doubtful now x)
     (sym (after_failing s r (of.broken ∙ ap is_some none) fine)) goes
-follows (Err Memory) r old new before now s of fine broken left kept = unchanged old new before now s of left kept
-follows (Err Broken) r old new before now s of fine broken left kept = unchanged old new before now s of left kept
-follows (Err NoStudy) r old new before now s of fine broken left kept = unchanged old new before now s of left kept
-follows (Err OtherPlan) r old new before now s of fine broken left kept = unchanged old new before now s of left kept
-follows (Err (Damaged number)) r old new before now s of fine broken left kept = unchanged old new before now s of left
-    kept
-follows (Err Held) r old new before now s of fine broken left kept = unchanged old new before now s of left kept
+follows (Err fault) r old new before now s of fine broken left kept = unchanged old new before now s of left kept
 
 pub opening_follows : OpeningsFollow
 opening_follows v count slips d size reads long = record {
@@ -149,17 +141,8 @@ opening_follows v count slips d size reads long = record {
 }
 
 pub others_follow : OtherEventsFollow
-others_follow v count doubtful d s Draw of leaves = record
-    { plan = of.plan; journal = of.journal; kept = of.kept; doubt = of.doubt; broken = of.broken }
 others_follow v count doubtful d s (HandIn r) of leaves = absurd (leaves)
 others_follow v count doubtful d s (HandInDiskFails r) of leaves = absurd (leaves)
-others_follow v count doubtful d s (Lose i) of leaves = record
-    { plan = of.plan; journal = of.journal; kept = of.kept; doubt = of.doubt; broken = of.broken }
 others_follow v count doubtful d s (CrashReopen keep size) of leaves = absurd (leaves)
-others_follow v count doubtful d s (Emit n) of leaves = record
+others_follow v count doubtful d s event of leaves = record
     { plan = of.plan; journal = of.journal; kept = of.kept; doubt = of.doubt; broken = of.broken }
-others_follow v count doubtful d s (WireFails n) of leaves = record
-    { plan = of.plan; journal = of.journal; kept = of.kept; doubt = of.doubt; broken = of.broken }
-others_follow v count doubtful d s NewWire of leaves = record
-    { plan = of.plan; journal = of.journal; kept = of.kept; doubt = of.doubt; broken = of.broken }
-others_follow v count doubtful d s Finish of leaves = of

@@ -5,7 +5,7 @@ use Rattle.std.specs.Bool.{⊤}
 use Rattle.std.specs.Prelude.{IfErr}
 use Rattle.std.proofs.lemmas.Bool.{cases_lt}
 use Rattle.std.proofs.lemmas.Bool.Decides.{nat_tests}
-use Rattle.std.proofs.lemmas.List.{take_all, length-take-le}
+use Rattle.std.proofs.lemmas.List.{take_all, take_min, length-take-le}
 use Rattle.std.proofs.lemmas.Slice.{between_is}
 use Rattle.std.proofs.Math.Seq.{take-take}
 use Rattle.cut_plan.specs.Values.{Values}
@@ -24,35 +24,16 @@ use Rattle.cut_journal.specs.inside.Places.{gate_place}
 use Rattle.cut_journal.proofs.Counts.{alike_place, alike_prefix}
 use Rattle.cut_journal.proofs.Gates.{gate_first}
 use Rattle.cut_journal.proofs.Headers.{has_can, header_alike, says_alike, magic_alike}
-use Rattle.cut_journal.proofs.Readings.{choice, choice_is, choice_ok, first_there, plan_read, slips_found}
+use Rattle.cut_journal.proofs.Readings.{first_there, plan_read, slips_found}
 
 -- ---- what bytes are read as, by their first ones
-
-head_is : (v : Values) (bytes : List ℕ) → head_reading v bytes
-    ≡ choice (is_study bytes) (has_header bytes) (says_plan v bytes) (has_magic v bytes) (Ok tt)
-unfolding choice
-head_is v bytes = refl
-
-choice_refused : {A : Type 0} (study header text letters : Bool) (rest : Result A JournalFault) (fault : JournalFault)
-    → choice {A = ⊤} study header text letters (Ok tt) ≡ Err fault
-    → (choice study header text letters rest ≡ Err fault) × IsOpeningFaultOf fault
-unfolding choice
-choice_refused true true true true rest fault is = absurd (cc)
-choice_refused true true true false rest fault is =
-    let same : Damaged 0 ≡ fault = cc in (ap (λ f. Err f) same, subst IsOpeningFaultOf same tt)
-choice_refused true true false letters rest fault is =
-    let same : OtherPlan ≡ fault = cc in (ap (λ f. Err f) same, subst IsOpeningFaultOf same tt)
-choice_refused true false text letters rest fault is =
-    let same : Damaged 0 ≡ fault = cc in (ap (λ f. Err f) same, subst IsOpeningFaultOf same tt)
-choice_refused false header text letters rest fault is =
-    let same : NoStudy ≡ fault = cc in (ap (λ f. Err f) same, subst IsOpeningFaultOf same tt)
 
 -- they are refused as the first ones are
 pub head_refused : (v : Values) (bytes : List ℕ) (fault : JournalFault) → head_reading v bytes ≡ Err fault
     → (reading v bytes ≡ Err fault) × IsOpeningFaultOf fault
+unfolding reading
 head_refused v bytes fault is =
-    let p = choice_refused (is_study bytes) (has_header bytes) (says_plan v bytes) (has_magic v bytes)
-    (slips_reading v bytes) fault (sym (head_is v bytes) ∙ is) in (choice_is v bytes ∙ p.0, p.1)
+    grind arith
 
 unreadable_by : (v : Values) (bytes : List ℕ) (fault : JournalFault) → reading v bytes ≡ Err fault
     → IsUnreadable v bytes fault
@@ -66,9 +47,7 @@ head_unreadable v bytes fault is = unreadable_by v bytes fault (head_refused v b
 -- or are the file of a study of the plan
 pub head_fine : (v : Values) (bytes : List ℕ) (done : ⊤) → head_reading v bytes ≡ Ok done → IsOfPlan v bytes
 head_fine v bytes done is =
-    let parts = choice_ok {A = ⊤} (is_study bytes) (has_header bytes) (says_plan v bytes) (has_magic v bytes) (Ok tt) done
-    (sym (head_is v bytes) ∙ is) in
-    record { study = parts.0; header = parts.1; text = parts.2; letters = parts.3 }
+    grind arith
 
 -- then the gate of the first slip is among them
 pub head_within : (v : Values) (bytes : List ℕ) (done : ⊤) → head_reading v bytes ≡ Ok done
@@ -79,10 +58,8 @@ head_within v bytes done is =
 -- ---- a file that is cut after the longest head
 
 bools_alike : (a b : Bool) → (a ≡ true → b ≡ true) → (b ≡ true → a ≡ true) → a ≡ b
-bools_alike true true on back = refl
-bools_alike true false on back = absurd (let bad = on refl in cc)
-bools_alike false true on back = absurd (let bad = back refl in cc)
-bools_alike false false on back = refl
+bools_alike a b on back =
+    grind arith
 
 can_short : (bytes : List ℕ) → can_have_header bytes ≡ true → text_length bytes ≤ 65536
 unfolding can_have_header
@@ -128,20 +105,13 @@ head_cut v bytes short = cut_alike v 65582 bytes refl short
 
 -- ---- the head that was read of a disk
 
-cut_at : (m size count : ℕ) (bytes : List ℕ) → size ≡ length bytes → count ≡ min size m
-    → take count bytes ≡ take m bytes
-cut_at m size count bytes whole is = elim (cases_lt m size) [
-  | inl long ↦ ap (λ (n : ℕ). take n bytes) (let all : count ≡ m = omega (arith, is, long) in all)
-  | inr short ↦ take_all count bytes (omega (arith, whole, is, short))
-      ∙ sym (take_all m bytes (omega (arith, whole, short)))
-]
-
 -- the whole file, or as much of it as the longest head has
 pub head_read : (size count : ℕ) (bytes head : List ℕ) → size ≡ length bytes → count ≡ min size 65582
     → head ≡ slice_range bytes 0 count → head ≡ head_in bytes
 unfolding head_in
-head_read size count bytes head whole is read = read ∙ between_is bytes 0 count
-    ∙ cut_at 65582 size count bytes whole is
+head_read size count bytes head whole is read =
+    let all : count ≡ min 65582 (length bytes) = omega arith in
+    read ∙ between_is bytes 0 count ∙ ap (λ (n : ℕ). take n bytes) all ∙ take_min 65582 bytes
 
 refused_by : (v : Values) (old new : DiskState) (fault : JournalFault) → new ≡ synced old
     → reading v old.bytes ≡ Err fault → IsOpeningFaultOf fault → IsRefused v fault old new
@@ -150,8 +120,7 @@ refused_by v old new Disk same is may = (tt, inr same)
 refused_by v old new NoStudy same is may = (is, same)
 refused_by v old new OtherPlan same is may = (is, same)
 refused_by v old new (Damaged number) same is may = (is, same)
-refused_by v old new Broken same is may = absurd (may)
-refused_by v old new Held same is may = absurd (may)
+refused_by v old new fault same is may = absurd (may)
 
 pub head_refuses : (v : Values) (old new : DiskState) (head : List ℕ) (fault : JournalFault)
     → length (canonical_text v) ≤ 65536 → new ≡ synced old → head ≡ head_in old.bytes

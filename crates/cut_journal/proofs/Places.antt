@@ -1,7 +1,6 @@
 -- What is read from a slip's gate on, by the places of the gates.
-use Rattle.std.proofs.Common.{◌≡◌, ◌∙◌, ◌≤◌, ◌<◌, ◌+◌, ◌⊎◌, inl, inr, ℕ, zero, suc, Bool, true, false}
-use Rattle.std.proofs.Common.{not, cond, List, [], ◌∷◌, Result, Ok, Err, length, map, drop}
-use Rattle.std.proofs.Common.{refl, sym, ap, subst, arith, add-zero}
+use Rattle.std.proofs.Common.{◌≡◌, ◌∙◌, ◌≤◌, ◌<◌, ◌+◌, ℕ, zero, suc, Bool, true, false, List, [], ◌∷◌, Result, Ok, Err}
+use Rattle.std.proofs.Common.{length, map, drop, refl, sym, ap, subst, arith}
 use Rattle.std.specs.List.{range_with_len}
 use Rattle.std.proofs.lemmas.List.{get_or-drop, drop-drop, length-drop}
 use Rattle.cut_plan.specs.Failing.{version_of}
@@ -13,16 +12,6 @@ use Rattle.cut_journal.specs.File.{slip_length}
 use Rattle.cut_journal.specs.Reading.{body_in, slip_in, then_slips, slips_in}
 use Rattle.cut_journal.specs.inside.Places.{gate_place, is_open, body_at, has_slip, is_whole, opens}
 use Rattle.cut_journal.proofs.Gates.{gate_next}
-
-pub ok_same : (xs ys : List Slip) → (let r : Result (List Slip) JournalFault = Ok xs in r) ≡ Ok ys → xs ≡ ys
-ok_same xs ys same = cc
-
-pub ok_not : (xs : List Slip) (fault : JournalFault) → (let r : Result (List Slip) JournalFault = Ok xs in r)
-    ≡ Err fault → ⊥
-ok_not xs fault same = cc
-
-damaged_not : (number : ℕ) → (let r : Result (List Slip) JournalFault = Err (Damaged number) in r) ≡ Err NoStudy → ⊥
-damaged_not number same = cc
 
 -- ---- what is left of a file from the gate of a slip on
 
@@ -46,62 +35,44 @@ next_is : (v : Values) (bytes : List ℕ) (i : ℕ) → drop (slip_length (versi
 next_is v bytes i =
     grind (arith, drop-drop, gate_next)
 
--- ---- the reading by places
-
-chosen : Bool → Bool → Slip → ℕ → Result (List Slip) JournalFault → Result (List Slip) JournalFault
-chosen shown whole slip number after = cond (not shown) (Ok [])
-    (cond (not whole) (Err (Damaged number)) (then_slips slip after))
-
--- one step of the reading
-abbrev rest_after : Values → ℕ → ℕ → List ℕ → Result (List Slip) JournalFault
-rest_after v more number rest = slips_in v more (number + 1) (drop (slip_length (version_of v.failing)) rest)
-
-abbrev first_in : Values → List ℕ → Slip
-first_in v rest = slip_in (version_of v.failing) (body_in v rest)
+-- ---- one step of the reading
 
 pub closed_in : (v : Values) (more number : ℕ) (rest : List ℕ) → opens rest ≡ false → slips_in v (suc more) number rest
     ≡ Ok []
-unfolding chosen
-closed_in v more number rest shut =
-    ap (λ (b : Bool). chosen b (has_slip v rest) (first_in v rest) number (rest_after v more number rest)) shut
+closed_in v more number rest shut = rw shut refl
 
 pub damaged_in : (v : Values) (more number : ℕ) (rest : List ℕ) → opens rest ≡ true → has_slip v rest ≡ false
     → slips_in v (suc more) number rest ≡ Err (Damaged number)
-unfolding chosen
-damaged_in v more number rest shown broken =
-    ap (λ (b : Bool). chosen b (has_slip v rest) (first_in v rest) number (rest_after v more number rest)) shown
-    ∙ ap (λ (b : Bool). chosen true b (first_in v rest) number (rest_after v more number rest)) broken
+damaged_in v more number rest shown broken = rw (shown, broken) refl
 
 pub whole_in : (v : Values) (more number : ℕ) (rest : List ℕ) → opens rest ≡ true → has_slip v rest ≡ true
-    → slips_in v (suc more) number rest ≡ then_slips (first_in v rest) (rest_after v more number rest)
-unfolding chosen
-whole_in v more number rest shown whole =
-    ap (λ (b : Bool). chosen b (has_slip v rest) (first_in v rest) number (rest_after v more number rest)) shown
-    ∙ ap (λ (b : Bool). chosen true b (first_in v rest) number (rest_after v more number rest)) whole
+    → slips_in v (suc more) number rest ≡ then_slips (slip_in (version_of v.failing) (body_in v rest))
+    (slips_in v more (number + 1) (drop (slip_length (version_of v.failing)) rest))
+whole_in v more number rest shown whole = rw (shown, whole) refl
 
-abbrev slip_at : Values → List ℕ → ℕ → Slip
+-- ---- by the places of the gates
+
+-- the slips from a gate on
+abbrev pub slips_at : Values → List ℕ → ℕ → ℕ → Result (List Slip) JournalFault
+slips_at v bytes more i = slips_in v more (i + 1) (rest_at v bytes i)
+
+abbrev pub slip_at : Values → List ℕ → ℕ → Slip
 slip_at v bytes i = slip_in (version_of v.failing) (body_at v bytes i)
 
-pub placed : Values → List ℕ → ℕ → ℕ → ℕ → Result (List Slip) JournalFault
-placed v bytes zero number i = Err (Damaged number)
-placed v bytes (suc more) number i = chosen (is_open v bytes i) (is_whole v bytes i) (slip_at v bytes i) number
-    (placed v bytes more (number + 1) (i + 1))
+pub closed_at : (v : Values) (bytes : List ℕ) (more i : ℕ) → is_open v bytes i ≡ false
+    → slips_at v bytes (suc more) i ≡ Ok []
+closed_at v bytes more i shut = closed_in v more (i + 1) (rest_at v bytes i) (opens_is v bytes i ∙ shut)
 
-pub slips_placed : (v : Values) (bytes : List ℕ) (more number i : ℕ) → slips_in v more number (rest_at v bytes i)
-    ≡ placed v bytes more number i
-unfolding placed chosen
-slips_placed v bytes zero number i = refl
-slips_placed v bytes (suc more) number i =
-    let after : Result (List Slip) JournalFault = slips_in v more (number + 1)
-    (drop (slip_length (version_of v.failing)) (rest_at v bytes i)) in
-    let slip : Slip = slip_in (version_of v.failing) (body_in v (rest_at v bytes i)) in
-    ap (λ (b : Bool). chosen b (has_slip v (rest_at v bytes i)) slip number after) (opens_is v bytes i)
-    ∙ ap (λ (b : Bool). chosen (is_open v bytes i) b slip number after) (whole_is v bytes i)
-    ∙ ap (λ (body : List ℕ). chosen (is_open v bytes i) (is_whole v bytes i) (slip_in (version_of v.failing) body)
-    number after) (body_is v bytes i)
-    ∙ ap (λ (r : Result (List Slip) JournalFault). chosen (is_open v bytes i) (is_whole v bytes i) (slip_at v bytes i)
-    number r)
-    (ap (slips_in v more (number + 1)) (next_is v bytes i) ∙ slips_placed v bytes more (number + 1) (i + 1))
+pub damaged_at : (v : Values) (bytes : List ℕ) (more i : ℕ) → is_open v bytes i ≡ true → is_whole v bytes i ≡ false
+    → slips_at v bytes (suc more) i ≡ Err (Damaged (i + 1))
+damaged_at v bytes more i shown broken =
+    damaged_in v more (i + 1) (rest_at v bytes i) (opens_is v bytes i ∙ shown) (whole_is v bytes i ∙ broken)
+
+whole_at : (v : Values) (bytes : List ℕ) (more i : ℕ) → is_open v bytes i ≡ true → is_whole v bytes i ≡ true
+    → slips_at v bytes (suc more) i ≡ then_slips (slip_at v bytes i) (slips_at v bytes more (i + 1))
+whole_at v bytes more i shown whole =
+    whole_in v more (i + 1) (rest_at v bytes i) (opens_is v bytes i ∙ shown) (whole_is v bytes i ∙ whole)
+    ∙ rw (body_is v bytes i, next_is v bytes i) refl
 
 -- ---- whole slips, and what stands after them
 
@@ -109,56 +80,22 @@ slips_placed v bytes (suc more) number i =
 abbrev AreWholeFrom : Values → List ℕ → ℕ → ℕ → Type 0
 AreWholeFrom v bytes i n = (j : ℕ) → i ≤ j → j < n → (is_open v bytes j ≡ true) × (is_whole v bytes j ≡ true)
 
-fewer : (v : Values) (bytes : List ℕ) (i k : ℕ) → AreWholeFrom v bytes i (i + suc k)
-    → AreWholeFrom v bytes (i + 1) (i + 1 + k)
-fewer v bytes i k whole = λ j low high. whole j (omega (arith, low)) (omega (arith, high))
-
-next_end : (i k : ℕ) → i + suc k ≡ i + 1 + k
-next_end i k = omega arith
-
-step : (v : Values) (bytes : List ℕ) (more number i : ℕ) (after : Result (List Slip) JournalFault) → is_open v bytes i
-    ≡ true → is_whole v bytes i ≡ true → placed v bytes more (number + 1) (i + 1) ≡ after
-    → placed v bytes (suc more) number i ≡ then_slips (slip_at v bytes i) after
-unfolding placed chosen
-step v bytes more number i after opens whole is =
-    ap (λ (b : Bool). chosen b (is_whole v bytes i) (slip_at v bytes i) number
-    (placed v bytes more (number + 1) (i + 1))) opens
-    ∙ ap (λ (b : Bool). chosen true b (slip_at v bytes i) number (placed v bytes more (number + 1) (i + 1))) whole
-    ∙ ap (then_slips (slip_at v bytes i)) is
-
--- up to a closed gate
-pub closed_placed : (v : Values) (bytes : List ℕ) (k more number i : ℕ) → k < more → AreWholeFrom v bytes i (i + k)
-    → is_open v bytes (i + k) ≡ false
-    → placed v bytes more number i ≡ Ok (map (slip_at v bytes) (range_with_len i k))
-unfolding placed chosen
-closed_placed v bytes k zero number i few whole shut = absurd (omega (arith, few))
-closed_placed v bytes zero (suc more) number i few whole shut =
-    ap (λ (b : Bool). chosen b (is_whole v bytes i) (slip_at v bytes i) number
-    (placed v bytes more (number + 1) (i + 1))) (ap (is_open v bytes) (sym (add-zero i)) ∙ shut)
-closed_placed v bytes (suc k) (suc more) number i few whole shut =
+-- they are read before what is read from the gate after them, be that an end or a fault
+pub read_on : (v : Values) (bytes : List ℕ) (E : List Slip → Result (List Slip) JournalFault)
+    → ((s : Slip) (ss : List Slip) → then_slips s (E ss) ≡ E (s ∷ ss)) → (k more left i n : ℕ) → more ≡ k + left
+    → i + k ≡ n → AreWholeFrom v bytes i n → slips_at v bytes left n ≡ E []
+    → slips_at v bytes more i ≡ E (map (slip_at v bytes) (range_with_len i k))
+read_on v bytes E goes zero more left i n many at whole ends =
+    let same : more ≡ left = omega arith in
+    let here : i ≡ n = omega arith in
+    rw (same, here) ends
+read_on v bytes E goes (suc k) zero left i n many at whole ends = absurd (omega arith)
+read_on v bytes E goes (suc k) (suc more) left i n many at whole ends =
     let here = whole i (omega arith) (omega arith) in
-    step v bytes more number i (Ok (map (slip_at v bytes) (range_with_len (i + 1) k))) here.0 here.1
-    (closed_placed v bytes k more (number + 1) (i + 1) (omega (arith, few)) (fewer v bytes i k whole)
-    (ap (is_open v bytes) (sym (next_end i k)) ∙ shut))
-
--- up to one that is damaged
-pub damaged_placed : (v : Values) (bytes : List ℕ) (k more number i : ℕ) → k < more → AreWholeFrom v bytes i (i + k)
-    → is_open v bytes (i + k) ≡ true → is_whole v bytes (i + k) ≡ false
-    → placed v bytes more number i ≡ Err (Damaged (number + k))
-unfolding placed chosen
-damaged_placed v bytes k zero number i few whole opens broken = absurd (omega (arith, few))
-damaged_placed v bytes zero (suc more) number i few whole opens broken =
-    ap (λ (b : Bool). chosen b (is_whole v bytes i) (slip_at v bytes i) number
-    (placed v bytes more (number + 1) (i + 1))) (ap (is_open v bytes) (sym (add-zero i)) ∙ opens)
-    ∙ ap (λ (b : Bool). chosen true b (slip_at v bytes i) number (placed v bytes more (number + 1) (i + 1)))
-    (ap (is_whole v bytes) (sym (add-zero i)) ∙ broken)
-    ∙ ap (λ (n : ℕ). Err (Damaged n)) (sym (add-zero number))
-damaged_placed v bytes (suc k) (suc more) number i few whole opens broken =
-    let here = whole i (omega arith) (omega arith) in
-    step v bytes more number i (Err (Damaged (number + 1 + k))) here.0 here.1
-    (damaged_placed v bytes k more (number + 1) (i + 1) (omega (arith, few)) (fewer v bytes i k whole)
-    (ap (is_open v bytes) (sym (next_end i k)) ∙ opens) (ap (is_whole v bytes) (sym (next_end i k)) ∙ broken))
-    ∙ ap (λ (n : ℕ). Err (Damaged n)) (sym (next_end number k))
+    whole_at v bytes more i here.0 here.1
+    ∙ ap (then_slips (slip_at v bytes i)) (read_on v bytes E goes k more left (i + 1) n (omega arith) (omega arith)
+    (λ j low high. whole j (omega arith) high) ends)
+    ∙ goes (slip_at v bytes i) (map (slip_at v bytes) (range_with_len (i + 1) k))
 
 -- ---- what was read stands there
 
@@ -167,17 +104,6 @@ pub record ArePlaced (v : Values) (bytes : List ℕ) (i : ℕ) (slips : List Sli
   pub closed : is_open v bytes (i + length slips) ≡ false
   pub are : slips ≡ map (slip_at v bytes) (range_with_len i (length slips))
 
-chosen_cases : (shown whole : Bool) (slip : Slip) (number : ℕ) (after : Result (List Slip) JournalFault)
-    (slips : List Slip) → chosen shown whole slip number after ≡ Ok slips
-    → ((shown ≡ false) × (slips ≡ [])) ⊎ ((shown ≡ true)
-    × ((whole ≡ true) × ((rest : List Slip) × ((after ≡ Ok rest) × (slips ≡ slip ∷ rest)))))
-unfolding chosen
-chosen_cases false whole slip number after slips is = inl (refl, ok_same slips [] (sym is))
-chosen_cases true false slip number after slips is = absurd (ok_not slips (Damaged number) (sym is))
-chosen_cases true true slip number (Ok rest) slips is = inr
-    (refl, (refl, (rest, (refl, ok_same slips (slip ∷ rest) (sym is)))))
-chosen_cases true true slip number (Err fault) slips is = absurd (ok_not slips fault (sym is))
-
 none_placed : (v : Values) (bytes : List ℕ) (i : ℕ) → is_open v bytes i ≡ false → ArePlaced v bytes i []
 none_placed v bytes i shut = grind arith
 
@@ -185,36 +111,40 @@ one_placed : (v : Values) (bytes : List ℕ) (i : ℕ) (rest : List Slip) → is
     ≡ true → ArePlaced v bytes (i + 1) rest → ArePlaced v bytes i (slip_at v bytes i ∷ rest)
 one_placed v bytes i rest opens whole after = grind arith
 
-more_placed : (v : Values) (bytes : List ℕ) (number i : ℕ) (after : Result (List Slip) JournalFault) (slips : List Slip)
-    → chosen (is_open v bytes i) (is_whole v bytes i) (slip_at v bytes i) number after ≡ Ok slips
-    → ((rest : List Slip) → after ≡ Ok rest → ArePlaced v bytes (i + 1) rest) → ArePlaced v bytes i slips
-more_placed v bytes number i after slips is then = elim
-    (chosen_cases (is_open v bytes i) (is_whole v bytes i) (slip_at v bytes i) number after slips is) [
-      | inl none ↦ subst (λ (l : List Slip). ArePlaced v bytes i l) (sym none.1) (none_placed v bytes i none.0)
-      | inr some ↦ (let rest : List Slip = some.1.1.0 in
-          subst (λ (l : List Slip). ArePlaced v bytes i l) (sym some.1.1.1.1)
-          (one_placed v bytes i rest some.0 some.1.0 (then rest some.1.1.1.0)))
-    ]
+then_is : (s : Slip) (r : Result (List Slip) JournalFault) (slips : List Slip) → then_slips s r ≡ Ok slips
+    → (rest : List Slip) × ((r ≡ Ok rest) × (slips ≡ s ∷ rest))
+then_is s (Ok rest) slips is = (rest, (refl, cc))
+then_is s (Err fault) slips is = absurd (cc)
 
-pub are_placed : (v : Values) (bytes : List ℕ) (more number i : ℕ) (slips : List Slip) → placed v bytes more number i
-    ≡ Ok slips → ArePlaced v bytes i slips
-unfolding placed
-are_placed v bytes zero number i slips is = absurd (ok_not slips (Damaged number) (sym is))
-are_placed v bytes (suc more) number i slips is =
-    more_placed v bytes number i (placed v bytes more (number + 1) (i + 1)) slips is
-    (λ rest after. are_placed v bytes more (number + 1) (i + 1) rest after)
+more_placed : (v : Values) (bytes : List ℕ) (more i : ℕ) (slips : List Slip) (shown whole : Bool) → is_open v bytes i
+    ≡ shown → is_whole v bytes i ≡ whole → slips_at v bytes (suc more) i ≡ Ok slips
+    → ((rest : List Slip) → slips_at v bytes more (i + 1) ≡ Ok rest → ArePlaced v bytes (i + 1) rest)
+    → ArePlaced v bytes i slips
+more_placed v bytes more i slips false whole shut says is then =
+    let none : Ok slips ≡ Ok [] = sym is ∙ closed_at v bytes more i shut in
+    let same : slips ≡ [] = cc none in
+    subst (ArePlaced v bytes i) (sym same) (none_placed v bytes i shut)
+more_placed v bytes more i slips true false opens broken is then =
+    absurd (cc (sym is ∙ damaged_at v bytes more i opens broken))
+more_placed v bytes more i slips true true opens says is then =
+    let p = then_is (slip_at v bytes i) (slips_at v bytes more (i + 1)) slips
+    (sym (whole_at v bytes more i opens says) ∙ is) in
+    subst (ArePlaced v bytes i) (sym p.1.1) (one_placed v bytes i p.0 opens says (then p.0 p.1.0))
+
+pub are_placed : (v : Values) (bytes : List ℕ) (more i : ℕ) (slips : List Slip) → slips_at v bytes more i ≡ Ok slips
+    → ArePlaced v bytes i slips
+are_placed v bytes zero i slips is = absurd (cc)
+are_placed v bytes (suc more) i slips is =
+    more_placed v bytes more i slips (is_open v bytes i) (is_whole v bytes i) refl refl is
+    (λ rest after. are_placed v bytes more (i + 1) rest after)
 
 -- the slips are never read as no study
-chosen_some : (shown whole : Bool) (slip : Slip) (number : ℕ) (after : Result (List Slip) JournalFault)
-    → (after ≡ Err NoStudy → ⊥) → chosen shown whole slip number after ≡ Err NoStudy → ⊥
-unfolding chosen
-chosen_some false whole slip number after some is = ok_not [] NoStudy is
-chosen_some true false slip number after some is = damaged_not number is
-chosen_some true true slip number (Ok rest) some is = ok_not (slip ∷ rest) NoStudy is
-chosen_some true true slip number (Err fault) some is = some is
+then_none : (s : Slip) (r : Result (List Slip) JournalFault) → then_slips s r ≡ Err NoStudy → r ≡ Err NoStudy
+then_none s (Ok rest) is = absurd (cc)
+then_none s (Err fault) is = is
 
-pub placed_some : (v : Values) (bytes : List ℕ) (more number i : ℕ) → placed v bytes more number i ≡ Err NoStudy → ⊥
-unfolding placed
-placed_some v bytes zero number i is = damaged_not number is
-placed_some v bytes (suc more) number i is =
-    grind (arith, chosen_some, placed_some v bytes more (number + 1) (i + 1))
+pub never_none : (v : Values) (more number : ℕ) (rest : List ℕ) → slips_in v more number rest ≡ Err NoStudy → ⊥
+never_none v zero number rest is = cc
+never_none v (suc more) number rest is =
+    grind (arith, then_none,
+    never_none v more (number + 1) (drop (slip_length (version_of v.failing)) rest))

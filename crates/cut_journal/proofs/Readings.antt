@@ -1,10 +1,9 @@
 -- How bytes are read.
 use Rattle.std.proofs.Common.{◌≡◌, ◌∙◌, ◌≤◌, ◌<◌, ◌+◌, ◌-◌, ◌++◌, ◌==◌, ◌&&◌, ◌⊎◌, inl, inr, ℕ, zero, suc, Bool, true}
 use Rattle.std.proofs.Common.{false, not, cond, List, [], ◌∷◌, Result, Ok, Err, length, take, drop, get_or, slice_range}
-use Rattle.std.proofs.Common.{slice_index, nat_le, refl, sym, ap, subst, arith, zero-add}
+use Rattle.std.proofs.Common.{slice_index, nat_le, refl, sym, ap, subst, arith, zero-add, add-one}
 use Rattle.std.specs.Prelude.{bytes_eq, Option, Some, None, IfErr}
 use Rattle.std.specs.Int.{w32, from_be_bytes}
-use Rattle.std.proofs.lemmas.Bool.{cases_lt}
 use Rattle.std.proofs.lemmas.Bool.Decides.{nat_tests}
 use Rattle.std.proofs.lemmas.List.{length-take}
 use Rattle.std.proofs.lemmas.List.FromFn.{map-range_with_len_more}
@@ -20,18 +19,13 @@ use Rattle.cut_journal.specs.declared.fault.JournalFault.TheVariants.{Memory, Di
 use Rattle.cut_journal.specs.declared.fault.JournalFault.TheVariants.{Held}
 use Rattle.cut_journal.specs.File.{open_gate, prefix_of, slip_length}
 use Rattle.cut_journal.specs.Reading.{is_study, says_plan, has_magic, is_magic, text_length, can_have_header}
-use Rattle.cut_journal.specs.Reading.{has_header, is_slip, slip_in, slips_in, slips_reading, reading}
+use Rattle.cut_journal.specs.Reading.{has_header, is_slip, slip_in, slips_reading, then_slips, reading}
 use Rattle.cut_journal.specs.inside.Steps.{AreRead, AreWhole, Finds, IsOfPlan, IsSlipFault}
-use Rattle.cut_journal.proofs.Places.{placed, slips_placed, closed_placed, damaged_placed, are_placed}
-use Rattle.cut_journal.proofs.Places.{placed_some}
+use Rattle.cut_journal.proofs.Places.{slip_at, slips_at, closed_at, damaged_at, read_on, are_placed, never_none}
 use Rattle.cut_journal.proofs.Gates.{gate_first, gate_next, gate_far, gate_rises, nine_numbers}
 use Rattle.cut_journal.proofs.Headers.{prefix_begins, begin_alike, says_length, has_can, header_room}
 use Rattle.cut_journal.proofs.Counts.{map_alike, alike_place, alike_prefix, alike_part}
 use Rattle.cut_journal.specs.inside.Places.{body_at, first_slips, gate_place, is_open, is_whole}
-
-pub cases_bool : (b : Bool) → (b ≡ true) ⊎ (b ≡ false)
-cases_bool true = inl refl
-cases_bool false = inr refl
 
 -- bytes are the file of a study of a plan, with n slips
 pub record Holds (v : Values) (bytes : List ℕ) (n : ℕ) : Type 0 where
@@ -73,10 +67,6 @@ pub whole_from : (v : Values) (bytes : List ℕ) (i : ℕ) → gate_place v (i +
 whole_from v bytes i long is =
     grind arith
 
-ap_place : (v : Values) (bytes : List ℕ) (i k : ℕ) → i ≡ k → gate_place v i < length bytes → gate_place v k
-    < length bytes
-ap_place v bytes i k is there = subst (λ (n : ℕ). gate_place v n < length bytes) is there
-
 pub opens_at : (v : Values) (bytes : List ℕ) (i at : ℕ) (is : Bool) → at ≡ gate_place v i → is
     ≡ (slice_index bytes at == open_gate) → is ≡ true → is_open v bytes i ≡ true
 opens_at v bytes i at is here reported opens = ap (λ (p : ℕ). slice_index bytes p == open_gate) (sym here)
@@ -96,70 +86,46 @@ pub next_broken : (v : Values) (bytes body : List ℕ) (i : ℕ) (found : Option
 next_broken v bytes body i found reported read none =
     grind arith
 
+-- one whole slip more
+pub one_more_whole : (v : Values) (bytes : List ℕ) (n : ℕ) → AreWhole v bytes n → is_open v bytes n ≡ true
+    → is_whole v bytes n ≡ true → AreWhole v bytes (n + 1)
+one_more_whole v bytes n whole opens is = grind arith
+
 -- the gate after whole slips is there
 pub gate_there : (v : Values) (bytes : List ℕ) (n : ℕ) → IsOfPlan v bytes → AreWhole v bytes n → gate_place v n
     < length bytes
 gate_there v bytes zero prefix whole = first_there v bytes prefix.header prefix.text
-gate_there v bytes (suc n) prefix whole =
-    grind (arith, ap_place v bytes (n + 1) (suc n))
+gate_there v bytes (suc n) prefix whole = subst (λ (k : ℕ). gate_place v k < length bytes) (add-one n)
+    (whole_is v bytes n (whole n (omega arith)).1).0
 
--- what is said of bytes, by what the tests of the first ones say and by what is said of the rest
-unfoldable pub choice : {A : Type 0} → Bool → Bool → Bool → Bool → Result A JournalFault → Result A JournalFault
-choice study header text letters rest =
-    cond (not study) (Err NoStudy) (cond (not header) (Err (Damaged 0))
-    (cond (not text) (Err OtherPlan) (cond (not letters) (Err (Damaged 0)) rest)))
-
-pub choice_is : (v : Values) (bytes : List ℕ) → reading v bytes
-    ≡ choice (is_study bytes) (has_header bytes) (says_plan v bytes) (has_magic v bytes) (slips_reading v bytes)
-unfolding choice reading
-choice_is v bytes = refl
-
-choice_none : (study header text letters : Bool) (read : Result (List Slip) JournalFault) → study ≡ false
-    → choice study header text letters read ≡ Err NoStudy
-unfolding choice
-choice_none false header text letters read none = refl
-choice_none true header text letters read none = absurd (cc)
-
-choice_plan : (study header text letters : Bool) (read : Result (List Slip) JournalFault) → study ≡ true → header ≡ true
-    → text ≡ true → letters ≡ true
-    → choice study header text letters read ≡ read
-unfolding choice
-choice_plan study header text letters read some whole says has = rw (some, whole, says, has) refl
-
-choice_some : (study header text letters : Bool) (read : Result (List Slip) JournalFault) → study ≡ true
-    → (read ≡ Err NoStudy → ⊥) → choice study header text letters read ≡ Err NoStudy → ⊥
-unfolding choice
-choice_some true true true true read study some is = some is
-choice_some true true true false read study some is = absurd (cc)
-choice_some true true false letters read study some is = absurd (cc)
-choice_some true false text letters read study some is = absurd (cc)
-choice_some false header text letters read study some is = absurd (cc)
-
-pub choice_ok : {A : Type 0} (study header text letters : Bool) (rest : Result A JournalFault) (found : A)
-    → choice study header text letters rest ≡ Ok found
-    → (study ≡ true) × (header ≡ true) × (text ≡ true) × (letters ≡ true) × (rest ≡ Ok found)
-unfolding choice
-choice_ok true true true true rest found is = (refl, refl, refl, refl, is)
-choice_ok true true true false rest found is = absurd (cc)
-choice_ok true true false letters rest found is = absurd (cc)
-choice_ok true false text letters rest found is = absurd (cc)
-choice_ok false header text letters rest found is = absurd (cc)
+-- where there is no study, that is all that is said
+pub none_read : (v : Values) (bytes : List ℕ) → is_study bytes ≡ false → reading v bytes ≡ Err NoStudy
+unfolding reading
+none_read v bytes none = rw none refl
 
 -- a study of the plan
 pub plan_read : (v : Values) (bytes : List ℕ) → IsOfPlan v bytes → reading v bytes ≡ slips_reading v bytes
-plan_read v bytes is =
-    grind (arith, choice_is, choice_plan)
+unfolding reading
+plan_read v bytes is = rw (is.study, is.header, is.text, is.letters) refl
 
--- the slips of a study, by the places of their gates
-reading_placed : (v : Values) (bytes : List ℕ) → slips_reading v bytes ≡ placed v bytes (length bytes) 1 0
+-- the slips of a study, from the first gate on
+pub reading_at : (v : Values) (bytes : List ℕ) → slips_reading v bytes ≡ slips_at v bytes (length bytes) 0
 unfolding slips_reading
-reading_placed v bytes = ap (λ (p : ℕ). slips_in v (length bytes) 1 (drop p bytes)) (sym (gate_first v))
-    ∙ slips_placed v bytes (length bytes) 1 0
+reading_at v bytes = rw (gate_first v) refl
+
+-- whole slips are read, and what is read from the gate after them
+ends_read : (v : Values) (bytes : List ℕ) (n : ℕ) (E : List Slip → Result (List Slip) JournalFault)
+    → ((s : Slip) (ss : List Slip) → then_slips s (E ss) ≡ E (s ∷ ss)) → IsOfPlan v bytes → AreWhole v bytes n
+    → ((more : ℕ) → slips_at v bytes (suc more) n ≡ E []) → slips_reading v bytes ≡ E (first_slips v bytes n)
+ends_read v bytes n E goes prefix whole ends =
+    let there = gate_there v bytes n prefix whole in
+    reading_at v bytes ∙ read_on v bytes E goes n (length bytes) (suc (length bytes - (n + 1))) 0 n
+    (omega (arith, there, gate_far v n)) (zero-add n) (λ j low high. whole j high) (ends (length bytes - (n + 1)))
 
 pub slips_read : (v : Values) (bytes : List ℕ) (n : ℕ) → Holds v bytes n → slips_reading v bytes
     ≡ Ok (first_slips v bytes n)
-slips_read v bytes n holds =
-    grind (arith, gate_there, reading_placed, closed_placed, gate_far)
+slips_read v bytes n holds = ends_read v bytes n (λ ss. Ok ss) (λ s ss. refl) holds.prefix holds.whole
+    (λ more. closed_at v bytes more n holds.closed)
 
 pub holds_reads : (v : Values) (bytes : List ℕ) (n : ℕ) → Holds v bytes n → reading v bytes ≡ Ok (first_slips v bytes n)
 holds_reads v bytes n holds = plan_read v bytes holds.prefix ∙ slips_read v bytes n holds
@@ -168,32 +134,30 @@ holds_reads v bytes n holds = plan_read v bytes holds.prefix ∙ slips_read v by
 pub damage_read : (v : Values) (bytes : List ℕ) (i : ℕ) → IsOfPlan v bytes → AreWhole v bytes i → is_open v bytes i
     ≡ true → is_whole v bytes i ≡ false
     → slips_reading v bytes ≡ Err (Damaged (i + 1))
-damage_read v bytes i prefix before opens broken =
-    let there = gate_there v bytes i prefix before in
-    reading_placed v bytes
-    ∙ damaged_placed v bytes i (length bytes) 1 0 (omega (arith, there, gate_far v i))
-    (λ j low high. before j (omega (arith, high)))
-    (ap (is_open v bytes) (zero-add i) ∙ opens) (ap (is_whole v bytes) (zero-add i) ∙ broken)
-    ∙ ap (λ (k : ℕ). Err (Damaged k)) (let e : 1 + i ≡ i + 1 = omega arith in e)
+damage_read v bytes i prefix before opens broken = ends_read v bytes i (λ ss. Err (Damaged (i + 1))) (λ s ss. refl)
+    prefix before (λ more. damaged_at v bytes more i opens broken)
 
--- where there is no study, that is all that is said; where there is one, something else
-pub none_read : (v : Values) (bytes : List ℕ) → is_study bytes ≡ false → reading v bytes ≡ Err NoStudy
-none_read v bytes none = choice_is v bytes ∙ choice_none (is_study bytes) (has_header bytes) (says_plan v bytes)
-    (has_magic v bytes) (slips_reading v bytes) none
-
+-- where there is a study, its absence is not what is said
 pub some_read : (v : Values) (bytes : List ℕ) → is_study bytes ≡ true → reading v bytes ≡ Err NoStudy → ⊥
+unfolding reading slips_reading
 some_read v bytes some is =
-    grind (arith, choice_some, placed_some, reading_placed, choice_is)
+    grind (arith, never_none)
+
+-- bytes that say slips are of the plan
+read_plan : (v : Values) (bytes : List ℕ) (slips : List Slip) → reading v bytes ≡ Ok slips → IsOfPlan v bytes
+unfolding reading
+read_plan v bytes slips is =
+    grind arith
 
 -- bytes that say slips
 pub reads_holds : (v : Values) (bytes : List ℕ) (slips : List Slip) → reading v bytes ≡ Ok slips
     → Holds v bytes (length slips) × (slips ≡ first_slips v bytes (length slips))
 reads_holds v bytes slips is =
-    let parts = choice_ok (is_study bytes) (has_header bytes) (says_plan v bytes) (has_magic v bytes)
-    (slips_reading v bytes) slips (sym (choice_is v bytes) ∙ is) in
-    let slips_there = are_placed v bytes (length bytes) 1 0 slips (sym (reading_placed v bytes) ∙ parts.4) in
+    let prefix = read_plan v bytes slips is in
+    let slips_there = are_placed v bytes (length bytes) 0 slips
+    (sym (reading_at v bytes) ∙ sym (plan_read v bytes prefix) ∙ is) in
     let holds : Holds v bytes (length slips) = record {
-      prefix = record { study = parts.0; header = parts.1; text = parts.2; letters = parts.3 };
+      prefix = prefix;
       whole = λ i low. slips_there.whole i (omega arith) (omega (arith, low));
       closed = ap (is_open v bytes) (sym (zero-add (length slips))) ∙ slips_there.closed;
     } in
@@ -201,17 +165,16 @@ reads_holds v bytes slips is =
 
 -- ---- bytes that begin alike
 
-slip_same : (v : Values) (m i : ℕ) (bytes others : List ℕ) → take m others ≡ take m bytes → gate_place v (i + 1) ≤ m
-    → body_at v others i ≡ body_at v bytes i
-slip_same v m i bytes others alike low = alike_part m (gate_place v i + 1) (gate_place v (i + 1)) others bytes alike low
-
-open_same : (v : Values) (m i : ℕ) (bytes others : List ℕ) → take m others ≡ take m bytes → gate_place v i < m
-    → is_open v others i ≡ is_open v bytes i
-open_same v m i bytes others alike low = ap (λ (b : ℕ). b == open_gate)
-    (alike_place m (gate_place v i) others bytes alike low)
-
-slip_ends : (v : Values) (i n : ℕ) → i < n → gate_place v (i + 1) ≤ gate_place v n
-slip_ends v i n low = omega (arith, gate_next v i, gate_rises v i n low)
+slip_same : (v : Values) (n i : ℕ) (bytes others : List ℕ) → take (gate_place v n) others ≡ take (gate_place v n) bytes
+    → i < n → (gate_place v (i + 1) ≤ gate_place v n) × (is_open v others i ≡ is_open v bytes i)
+    × (body_at v others i ≡ body_at v bytes i)
+slip_same v n i bytes others alike low =
+    let end : gate_place v (i + 1) ≤ gate_place v n = omega (arith, gate_next v i, gate_rises v i n low) in (
+      end,
+      ap (λ (b : ℕ). b == open_gate) (alike_place (gate_place v n) (gate_place v i) others bytes alike
+          (omega (arith, gate_next v i, end, nine_numbers (version_of v.failing)))),
+      alike_part (gate_place v n) (gate_place v i + 1) (gate_place v (i + 1)) others bytes alike end,
+    )
 
 gate_first_least : (v : Values) (n : ℕ) → gate_place v 0 ≤ gate_place v n
 gate_first_least v zero = omega arith
@@ -222,19 +185,16 @@ pub before_same : (v : Values) (n : ℕ) (bytes others : List ℕ) → IsOfPlan 
     → take (gate_place v n) others ≡ take (gate_place v n) bytes → gate_place v n < length others
     → IsOfPlan v others × (AreWhole v others n) × (first_slips v others n ≡ first_slips v bytes n)
 before_same v n bytes others prefix whole alike long =
-    let m : ℕ = gate_place v n in
-    let first : gate_place v 0 ≤ m = gate_first_least v n in (
-      of_plan_alike v bytes others (alike_prefix m (gate_place v 0) others bytes alike first)
+    let first = gate_first_least v n in (
+      of_plan_alike v bytes others (alike_prefix (gate_place v n) (gate_place v 0) others bytes alike first)
           (omega (arith, long, first)) prefix,
-      λ i low. (let end : gate_place v (i + 1) ≤ m = slip_ends v i n low in (
-        open_same v m i bytes others alike (omega (arith, gate_next v i, end, nine_numbers (version_of v.failing)))
-            ∙ (whole i low).0,
-        whole_from v others i (omega (arith, end, long))
-            (ap (is_slip v) (slip_same v m i bytes others alike end) ∙ (whole_is v bytes i (whole i low).1).1),
+      λ i low. (let same = slip_same v n i bytes others alike low in (
+        same.1 ∙ (whole i low).0,
+        whole_from v others i (omega (arith, same.0, long))
+            (ap (is_slip v) same.2 ∙ (whole_is v bytes i (whole i low).1).1),
       )),
-      map_alike (λ i. slip_in (version_of v.failing) (body_at v others i))
-          (λ i. slip_in (version_of v.failing) (body_at v bytes i)) n
-          (λ i low. ap (slip_in (version_of v.failing)) (slip_same v m i bytes others alike (slip_ends v i n low))),
+      map_alike (slip_at v others) (slip_at v bytes) n
+          (λ i low. ap (slip_in (version_of v.failing)) (slip_same v n i bytes others alike low).2),
     )
 
 -- where the gate after them is closed, that is all
@@ -254,21 +214,10 @@ pub opened_read : (v : Values) (n : ℕ) (bytes others : List ℕ) (slip : Slip)
     → reading v others ≡ Ok (first_slips v bytes n ++ slip ∷ [])
 opened_read v n bytes others slip prefix whole alike long opens is says shut =
     let same = before_same v n bytes others prefix whole alike (omega (arith, long, gate_next v n)) in
-    let more : AreWhole v others (n + 1) = λ i low. elim (cases_lt i n) [
-      | inl before ↦ same.1 i before
-      | inr last ↦ (let here : i ≡ n = omega arith
-          in (ap (is_open v others) here ∙ opens, ap (is_whole v others) here ∙ whole_from v others n long is))
-    ] in
+    let more = one_more_whole v others n same.1 opens (whole_from v others n long is) in
     holds_reads v others (n + 1) (record { prefix = same.0; whole = more; closed = shut })
-    ∙ ap (λ (l : List Slip). Ok l) (map-range_with_len_more (λ i. slip_in (version_of v.failing) (body_at v others i)) 0
-    n n (zero-add n)
-    ∙ ap (λ (l : List Slip). l ++ slip_in (version_of v.failing) (body_at v others n) ∷ []) same.2
-    ∙ ap (λ (x : Slip). first_slips v bytes n ++ x ∷ []) says)
-
--- one whole slip more
-pub one_more_whole : (v : Values) (bytes : List ℕ) (n : ℕ) → AreWhole v bytes n → is_open v bytes n ≡ true
-    → is_whole v bytes n ≡ true → AreWhole v bytes (n + 1)
-one_more_whole v bytes n whole opens is = grind arith
+    ∙ ap (λ (l : List Slip). Ok l) (map-range_with_len_more (slip_at v others) 0 n n (zero-add n)
+    ∙ ap (λ (l : List Slip). l ++ slip_at v others n ∷ []) same.2 ∙ ap (λ (x : Slip). first_slips v bytes n ++ x ∷ []) says)
 
 -- ---- headers
 
@@ -310,14 +259,6 @@ header_judged bytes found n has reported some is =
 
 -- ---- a study that is read to its end
 
-pub shown_is : (shown : Bool) → not shown ≡ false → shown ≡ true
-shown_is true is = refl
-shown_is false is = absurd (cc)
-
-pub shown_none : (shown : Bool) → not shown ≡ true → shown ≡ false
-shown_none true is = absurd (cc)
-shown_none false is = refl
-
 pub slips_found : (result : Result Slips JournalFault) (v : Values) (old new : DiskState) → new ≡ synced old
     → reading v old.bytes ≡ slips_reading v new.bytes → IfErr result IsSlipFault → AreRead result v new.bytes
     → Finds result v old new
@@ -325,7 +266,4 @@ slips_found (Ok found) v old new same is faults are = (is ∙ are, same)
 slips_found (Err Memory) v old new same is faults are = (tt, inr same)
 slips_found (Err Disk) v old new same is faults are = (tt, inr same)
 slips_found (Err (Damaged number)) v old new same is faults are = (is ∙ are number refl, same)
-slips_found (Err NoStudy) v old new same is faults are = absurd (faults)
-slips_found (Err OtherPlan) v old new same is faults are = absurd (faults)
-slips_found (Err Broken) v old new same is faults are = absurd (faults)
-slips_found (Err Held) v old new same is faults are = absurd (faults)
+slips_found (Err fault) v old new same is faults are = absurd (faults)
