@@ -1,6 +1,6 @@
 -- What the two writes of an append leave, whatever crash may come.
 use Rattle.std.proofs.Common.{◌≡◌, ◌∙◌, ◌≤◌, ◌<◌, ◌+◌, ◌-◌, ◌++◌, ◌==◌, inl, inr, ℕ, true, false, List, [], ◌∷◌, Result}
-use Rattle.std.proofs.Common.{Ok, Option, Some, None, unwrap_or, length, take, drop, get_or, refl, sym, ap, subst}
+use Rattle.std.proofs.Common.{Ok, Err, Option, Some, None, unwrap_or, length, take, drop, get_or, refl, sym, ap, subst}
 use Rattle.std.proofs.Common.{arith, append_assoc, length-append, length-drop}
 use Rattle.std.specs.Bool.{⊤}
 use Rattle.std.specs.Result.{is_ok}
@@ -12,15 +12,18 @@ use Rattle.cut_plan.specs.Failing.{version_of}
 use Rattle.cut_plan.specs.Values.{Values}
 use Rattle.cut_disks.specs.State.{DiskState, IsImage, IsTorn, Throughout, covers, settled, overwritten}
 use Rattle.cut_disks.specs.Laws.{WritesStayInSpan}
+use Rattle.cut_disks.specs.Log.{DiskLog, Goes, IsKnown, Knows, on}
+use Rattle.cut_faults.specs.Failures.{one_more}
 use Rattle.cut_ledger.specs.declared.slip.Slip.{Slip}
 use Rattle.cut_journal.specs.declared.fault.JournalFault.{JournalFault}
+use Rattle.cut_journal.specs.declared.fault.JournalFault.TheVariants.{Disk}
 use Rattle.cut_journal.specs.File.{HoldsAllTotals, open_gate, closed_gate, numbers_length, slip_length, body_of}
 use Rattle.cut_journal.specs.Reading.{is_slip, slip_in, reading}
-use Rattle.cut_journal.specs.Journal.{kept_slips, slips_of, ReadsAs, IsFileOf}
-use Rattle.cut_journal.specs.inside.Steps.{HasNumbers, WritesThrough, Leave}
+use Rattle.cut_journal.specs.Journal.{Appends, JournalValue, ReadsAs, IsFileOf, fault_counts, kept_slips, slips_of}
+use Rattle.cut_journal.specs.inside.Steps.{HasNumbers, WritesThrough, KeepsSlip, Leave}
 use Rattle.cut_journal.proofs.Counts.{alike_at, alike_prefix}
 use Rattle.cut_journal.proofs.Gates.{gate_next}
-use Rattle.cut_journal.proofs.Moments.{Through, through_is, settled_images}
+use Rattle.cut_journal.proofs.Moments.{Through, through_is, settled_images, stays}
 use Rattle.cut_journal.proofs.Readings.{Holds, gate_there, reads_holds, closed_read, opened_read}
 use Rattle.cut_journal.proofs.SlipBytes.{long_bytes, slip_back, slip_whole}
 use Rattle.cut_journal.specs.inside.Places.{body_at, first_slips, gate_place, is_open}
@@ -56,6 +59,10 @@ pub over_rest : (bytes put : List ℕ) (at : ℕ) → at ≤ length bytes → dr
     ++ drop (at + length put) bytes
 over_rest bytes put at low =
     grind (arith, append_assoc, drop_at, length-take)
+
+over_at : (bytes : List ℕ) (b at : ℕ) → at ≤ length bytes → get_or (overwritten bytes at (b ∷ [])) at 0 ≡ b
+over_at bytes b at low =
+    grind (arith, append_assoc, get_or-append_right, length-take)
 
 -- ---- the journal that is ready for a slip
 
@@ -95,6 +102,22 @@ first_step result v n slip put old new stay sound is =
 
 -- ---- the second write
 
+-- what stands after the gate that a slip was written after
+written_after : (v : Values) (n : ℕ) (bytes tail : List ℕ) (slip : Slip) → drop (gate_place v n + 1) bytes
+    ≡ put_of v slip ++ tail → (gate_place v (n + 1) < length bytes) × (body_at v bytes n ≡ body_of v slip)
+    × (is_open v bytes (n + 1) ≡ false)
+written_after v n bytes tail slip is =
+    let b : ℕ = numbers_length (version_of v.failing) + 32 in
+    let ahead : gate_place v (n + 1) ≡ gate_place v n + 1 + b = gate_next v n ∙ omega arith in
+    let all : drop (gate_place v n + 1) bytes ≡ body_of v slip ++ (closed_gate ∷ tail) =
+    is ∙ append_assoc (body_of v slip) (closed_gate ∷ []) tail in
+    let size = ap (λ (l : List ℕ). length l) all in (
+      omega (arith, size, length-append (body_of v slip) (closed_gate ∷ tail), long_body v slip, ahead,
+          length-drop (gate_place v n + 1) bytes),
+      grind (arith, all, ahead, take_at, long_body),
+      grind (arith, all, ahead, get_or-drop, get_or-append_right, long_body),
+    )
+
 -- the gate is the only place that may differ
 second_torn : (v : Values) (n : ℕ) (bytes torn : List ℕ) (slip : Slip) → Holds v bytes n → HasNumbers slip
     → HoldsAllTotals (version_of v.failing) slip.totals
@@ -106,57 +129,29 @@ second_torn v n bytes torn slip holds fits reports is =
     let put : List ℕ = put_of v slip in
     let mid : List ℕ = overwritten bytes (g + 1) put in
     let there = gate_there v bytes n holds.prefix holds.whole in
-    let rest_mid : drop (g + 1) mid ≡ put ++ drop (g + 1 + length put) bytes = over_rest bytes put (g + 1)
+    let rest : drop (g + 1) mid ≡ put ++ drop (g + 1 + length put) bytes = over_rest bytes put (g + 1)
     (omega (arith, there)) in
-    let b : ℕ = numbers_length (version_of v.failing) + 32 in
-    let ahead : gate_place v (n + 1) ≡ g + 1 + b = gate_next v n ∙ omega arith in
-    let long : g + 2 + b ≤ length mid = omega (
-      arith,
-      ap (λ (l : List ℕ). length l) rest_mid,
-      length-append put
-          (drop (g + 1 + length put) bytes),
-      long_put v slip,
-      length-drop (g + 1) mid,
-    ) in
+    let there_mid = written_after v n mid (drop (g + 1 + length put) bytes) slip rest in
+    let low : g + 1 ≤ length mid = omega (arith, there_mid.0, gate_next v n) in
     let prefix : take g torn ≡ take g bytes =
-    torn_prefix g (g + 1) g mid torn is (omega arith) (omega (arith, long))
+    torn_prefix g (g + 1) g mid torn is (omega arith) (omega (arith, low))
     ∙ alike_prefix (g + 1) g mid bytes (over_prefix bytes put (g + 1) (omega (arith, there))) (omega arith) in
-    let rest : drop (g + 1) torn ≡ put ++ drop (g + 1 + length put) bytes = torn_rest g (g + 1) mid torn is
-    (omega (arith, long)) ∙ rest_mid in
-    let longer : g + 2 + b ≤ length torn = omega (arith, long, is.no_shorter) in
-    let size : gate_place v (n + 1) - (g + 1) ≡ b = omega (arith, ahead) in
-    let body : body_at v torn n ≡ body_of v slip =
-    ap (λ (k : ℕ). take k (drop (g + 1) torn)) size
-    ∙ ap (take b) (rest ∙ append_assoc (body_of v slip) (closed_gate ∷ []) (drop (g + 1 + length put) bytes))
-    ∙ take_at (body_of v slip) ((closed_gate ∷ []) ++ drop (g + 1 + length put) bytes) b (long_body v slip) in
-    let next : g + 1 + b ≡ gate_place v (n + 1) = sym ahead in
-    let shut : get_or torn (gate_place v (n + 1)) 0 ≡ 0 =
-    ap (λ (k : ℕ). get_or torn k 0) (sym next) ∙ sym (get_or-drop (g + 1) torn b 0)
-    ∙ ap (λ (l : List ℕ). get_or l b 0) (rest ∙ append_assoc (body_of v slip) (closed_gate ∷ [])
-    (drop (g + 1 + length put) bytes))
-    ∙ get_or-append_right (body_of v slip) ((closed_gate ∷ []) ++ drop (g + 1 + length put) bytes) b b 0
-    (long_body v slip) (omega arith)
-    ∙ ap (λ (k : ℕ). get_or ((closed_gate ∷ []) ++ drop (g + 1 + length put) bytes) k 0)
-    (let e : b - b ≡ 0 = omega arith in e) in (
-      λ opens. opened_read v n bytes torn slip holds.prefix holds.whole prefix (omega (arith, longer, ahead)) opens
-          (ap (is_slip v) body ∙ slip_whole v slip fits)
-          (ap (slip_in (version_of v.failing)) body ∙ slip_back v slip fits reports)
-          (ap (λ (b : ℕ). b == open_gate) shut),
-      λ closes. closed_read v n bytes torn holds.prefix holds.whole prefix (omega (arith, longer)) closes,
+    let after = written_after v n torn (drop (g + 1 + length put) bytes) slip
+    (torn_rest g (g + 1) mid torn is low ∙ rest) in (
+      λ opens. opened_read v n bytes torn slip holds.prefix holds.whole prefix after.0 opens
+          (ap (is_slip v) after.1 ∙ slip_whole v slip fits)
+          (ap (slip_in (version_of v.failing)) after.1 ∙ slip_back v slip fits reports) after.2,
+      λ closes. closed_read v n bytes torn holds.prefix holds.whole prefix (omega (arith, after.0, gate_next v n)) closes,
     )
 
 -- the second write, and its sync
-pub record Second {E : Type 0} (result : Result ⊤ E) (v : Values) (slips : List Slip) (slip : Slip) (at : ℕ)
-    (old new : DiskState) : Type 0 where
-  pub through : Through (ReadsAs v slips (Some slip)) result at (open_gate ∷ []) old new
-  pub kept : is_ok result ≡ true → reading v new.bytes ≡ Ok (slips ++ slip ∷ [])
-
 pub second_step : {E : Type 0} (result : Result ⊤ E) (v : Values) (n : ℕ) (slip : Slip) (old mid new : DiskState)
     → WritesStayInSpan → IsFileOf v n None old → HasNumbers slip → HoldsAllTotals (version_of v.failing) slip.totals
     → mid.bytes ≡ overwritten old.bytes (gate_place v n + 1) (put_of v slip) → mid.stable ≡ settled mid.bytes
     → WritesThrough result (gate_place v n) (open_gate ∷ []) mid new
-    → Second result v (kept_slips v n old) slip (gate_place v n) mid new
-second_step {E} result v n slip old mid new stay sound fits reports wrote durable is =
+    → Through (ReadsAs v (kept_slips v n old) (Some slip)) result (gate_place v n) (open_gate ∷ []) mid new
+    × (is_ok result ≡ true → reading v new.bytes ≡ Ok (kept_slips v n old ++ slip ∷ []))
+second_step result v n slip old mid new stay sound fits reports wrote durable is =
     let g : ℕ = gate_place v n in
     let ready = sound_holds v n old sound in
     let slips : List Slip = kept_slips v n old in
@@ -180,28 +175,20 @@ second_step {E} result v n slip old mid new stay sound fits reports wrote durabl
     let before : P mid.bytes = reads mid.bytes (record
     { no_shorter = omega arith; no_longer = omega arith; same = λ i low outside. refl }) in
     let step : Through P result g (open_gate ∷ []) mid new = through_is P result g (open_gate ∷ []) mid new stay durable
-    before reads is in
-    record {
-      through = step;
-      kept = λ ok. (let bytes : new.bytes ≡ overwritten mid.bytes g (open_gate ∷ []) = step.bytes ok in
-          let long : g < length mid.bytes = omega (
-            arith,
-            ap (λ (l : List ℕ). length l) wrote,
-            ap (λ (l : List ℕ). length l) (over_rest old.bytes put (g + 1) (omega (arith, there))),
-            length-append put (drop (g + 1 + length put) old.bytes),
-            long_put v slip,
-            length-drop (g + 1) (overwritten old.bytes (g + 1) put),
-          ) in
+    before reads is in (
+      step,
+      λ ok. (let bytes : new.bytes ≡ overwritten mid.bytes g (open_gate ∷ []) = step.bytes ok in
+          let rest : drop (g + 1) mid.bytes ≡ put ++ drop (g + 1 + length put) old.bytes = ap (drop (g + 1)) wrote
+          ∙ over_rest old.bytes put (g + 1) (omega (arith, there)) in
+          let after = written_after v n mid.bytes (drop (g + 1 + length put) old.bytes) slip rest in
           let first : get_or new.bytes g 0 ≡ open_gate =
-          ap (λ (l : List ℕ). get_or l g 0) bytes ∙ ap
-          (λ (k : ℕ). get_or (overwritten mid.bytes g (open_gate ∷ [])) k 0) (let e : g ≡ g + 0 = omega arith in e)
-          ∙ sym (get_or-drop g (overwritten mid.bytes g (open_gate ∷ [])) 0 0)
-          ∙ ap (λ (l : List ℕ). get_or l 0 0) (over_rest mid.bytes (open_gate ∷ []) g (omega (arith, long))) in
+          ap (λ (l : List ℕ). get_or l g 0) bytes
+          ∙ over_at mid.bytes open_gate g (omega (arith, after.0, gate_next v n)) in
           let t : IsTorn g (g + 1) mid.bytes new.bytes = subst (λ (b : List ℕ). IsTorn g (g + 1) mid.bytes b)
           (sym bytes) (stay mid.bytes (open_gate ∷ []) g) in
           (torn new.bytes t).0 ((Decides-eqb (get_or new.bytes g 0) open_gate).1 first)
-          ∙ ap (λ (l : List Slip). Ok (l ++ slip ∷ [])) (sym ready.1));
-    }
+          ∙ ap (λ (l : List Slip). Ok (l ++ slip ∷ [])) (sym ready.1)),
+    )
 
 -- ---- at the place of the gate
 
@@ -211,14 +198,6 @@ pub first_at : {E : Type 0} (result : Result ⊤ E) (v : Values) (n place : ℕ)
     → Through (ReadsAs v (kept_slips v n old) (Some slip)) result (place + 1) put old new
 first_at result v n place slip put old new here stay sound is =
     grind (arith, first_step result v n slip put old new stay sound)
-
-pub second_at : {E F : Type 0} (first : Result ⊤ F) (result : Result ⊤ E) (v : Values) (n place : ℕ) (slip : Slip)
-    (put : List ℕ) (old mid new : DiskState) → place ≡ gate_place v n → WritesStayInSpan
-    → IsFileOf v n None old → HasNumbers slip → HoldsAllTotals (version_of v.failing) slip.totals → put ≡ put_of v slip
-    → is_ok first ≡ true → WritesThrough first (place + 1) put old mid
-    → WritesThrough result place (open_gate ∷ []) mid new → Second result v (kept_slips v n old) slip place mid new
-second_at first result v n place slip put old mid new here stay sound fits reports made done before is =
-    grind (arith, second_step result v n slip old mid new stay sound fits reports)
 
 -- there is room for both writes
 pub gate_before : (v : Values) (n place : ℕ) (d : DiskState) → place ≡ gate_place v n → IsFileOf v n None d → place + 1
@@ -252,11 +231,22 @@ reads_more v slips None slip bytes (inl reads) = inl reads
 reads_more v slips None slip bytes (inr other) = absurd (cc (other.1.0))
 reads_more v slips (Some doubtful) slip bytes reads = reads
 
-pub sound_stays : (v : Values) (n : ℕ) (doubtful : Option Slip) (slip : Slip) (d new : DiskState) → new ≡ d
-    → IsFileOf v n doubtful d
-    → Throughout d new (ReadsAs v (kept_slips v n d) (Some (unwrap_or doubtful slip)))
-sound_stays v n doubtful slip d new same sound =
-    grind arith
+-- an append that is refused at once
+pub append_stays : {D : Type 0} (log : D → DiskLog) (fault : JournalFault) (slip : Slip) (j : JournalValue D)
+    → ((n : ℕ) → fault_counts fault n ≡ n) → Knows (log j.disk) (IsFileOf j.plan j.count j.doubtful)
+    → Appends log (Err fault) slip j j
+append_stays log fault slip j uncounted sound = record {
+  known = refl;
+  state = λ known. record {
+    moments = stays (ReadsAs j.plan (kept_slips j.plan j.count (on (log j.disk))) (Some (unwrap_or j.doubtful slip)))
+        (on (log j.disk)) (on (log j.disk)) refl (λ image of. reads_more j.plan
+        (kept_slips j.plan j.count (on (log j.disk))) j.doubtful slip image ((sound known).images image of));
+    kept = refl;
+    file = tt;
+    acknowledged = tt;
+  };
+  faults = sym (uncounted (log j.disk).failed);
+}
 
 -- ---- the journal after an append
 
@@ -283,7 +273,49 @@ pub failed_sound : (v : Values) (n : ℕ) (slip : Slip) (old new : DiskState) �
 failed_sound v n slip old new long left =
     grind (arith, kept_same v n slip old new long left.0)
 
-pub all_read : (v : Values) (slips : List Slip) (d : DiskState) → reading v d.bytes ≡ Ok slips → d.stable
-    ≡ settled d.bytes → (image : List ℕ) → IsImage d.stable image → reading v image ≡ Ok slips
-all_read v slips d reads durable = settled_images (λ (image : List ℕ). reading v image ≡ Ok slips) d.stable d.bytes
-    durable reads
+-- the slip was kept
+pub slip_kept : {D E : Type 0} (log : D → DiskLog) (number : ℕ) (slip : Slip) (old : JournalValue D) (disk : D)
+    → old.doubtful ≡ None → Knows (log old.disk) (IsFileOf old.plan old.count old.doubtful)
+    → Goes (λ n. n) (KeepsSlip {E = E} (Ok tt) old.plan old.count slip) (log old.disk) (log disk)
+    → Appends log (Ok number) slip old (record old { disk = disk; count = old.count + 1 })
+    × Knows (log disk) (IsFileOf old.plan (old.count + 1) old.doubtful)
+slip_kept log number slip old disk none sound goes =
+    let parts = λ (known : IsKnown (log old.disk)). (let keeps = goes.state known in
+    added old.plan old.count slip (on (log old.disk)) (on (log disk))
+    (subst (λ (o : Option Slip). IsFileOf old.plan old.count o (on (log old.disk))) none (sound known)) keeps.kept
+    keeps.durable) in (
+      record {
+        known = goes.known;
+        state = λ known. (let keeps = goes.state known in record {
+          moments = rw none keeps.moments;
+          kept = (parts known).1;
+          file = keeps.file;
+          acknowledged = rw (parts known).1 (settled_images (λ (image : List ℕ). reading old.plan image
+              ≡ Ok (kept_slips old.plan old.count (on (log old.disk)) ++ slip ∷ [])) (on (log disk)).stable
+              (on (log disk)).bytes keeps.durable keeps.kept);
+        });
+        faults = goes.faults;
+      },
+      λ known. rw none (parts (sym goes.known ∙ known)).0,
+    )
+
+-- it is not known whether it was
+pub slip_doubted : {D E : Type 0} (log : D → DiskLog) (fault : E) (slip : Slip) (old : JournalValue D) (disk : D)
+    → old.doubtful ≡ None → Knows (log old.disk) (IsFileOf old.plan old.count old.doubtful)
+    → Goes one_more (KeepsSlip {E = E} (Err fault) old.plan old.count slip) (log old.disk) (log disk)
+    → Appends log (Err Disk) slip old (record old { disk = disk; doubtful = Some slip })
+    × Knows (log disk) (IsFileOf old.plan old.count (Some slip))
+slip_doubted log fault slip old disk none sound goes = (
+  record {
+    known = goes.known;
+    state = λ known. (let keeps = goes.state known in record {
+      moments = rw none keeps.moments;
+      kept = kept_same old.plan old.count slip (on (log old.disk)) (on (log disk)) (sound known).counted keeps.left.0;
+      file = tt;
+      acknowledged = tt;
+    });
+    faults = goes.faults;
+  },
+  λ known. (let before = sym goes.known ∙ known in failed_sound old.plan old.count slip (on (log old.disk))
+      (on (log disk)) (sound before).counted (goes.state before).left),
+)

@@ -1,7 +1,7 @@
 -- What is left of a disk that was not claimed.
 use Rattle.std.proofs.Common.{◌≡◌, ◌&&◌, ◌∙◌, ◌⊎◌, inl, inr, ℕ, Bool, true, false, not, List, Err}
 use Rattle.std.proofs.Common.{refl, sym, ap, subst, arith}
-use Rattle.std.proofs.lemmas.Bool.{false_from_ne_true, true_from_ne_false}
+use Rattle.std.proofs.lemmas.Bool.{cases_Bool, false_from_ne_true, true_from_ne_false}
 use Rattle.std.proofs.lemmas.Bool.Decides.{nat_tests}
 use Rattle.cut_plan.specs.Values.{Values}
 use Rattle.cut_disks.specs.State.{DiskState, Throughout, synced}
@@ -39,46 +39,24 @@ not_claimed v fault old new known made = absurd made
 
 -- ---- an opening, where there is no study
 
-foreign_or : (study unclaimed : Bool) → study ≡ false
-    → (unclaimed ≡ true) ⊎ ((not study && not unclaimed) ≡ true)
-foreign_or study true none = inl refl
-foreign_or false false none = inr refl
-foreign_or true false none = absurd (cc)
-
 no_study : (v : Values) (bytes : List ℕ) → reading v bytes ≡ Err NoStudy → is_study bytes ≡ false
 no_study v bytes none = false_from_ne_true (is_study bytes) (λ is. some_read v bytes is none)
 
-pub refused_so : (v : Values) (fault : JournalFault) (old mid new : DiskState) → mid ≡ synced old
-    → reading v old.bytes ≡ Err NoStudy → IsNotClaimed v fault mid new → IsOpenFault v old.bytes fault
-refused_so v Memory old mid new so none made = tt
-refused_so v Disk old mid new so none made = tt
-refused_so v NoStudy old mid new so none made = subst (λ (d : DiskState). is_foreign d.bytes ≡ true) so made.0
-refused_so v Held old mid new so none made =
-    absurd (some_read v old.bytes (subst (λ (d : DiskState). is_study d.bytes ≡ true) so made.0) none)
-refused_so v fault old mid new so none made = absurd made
+begun_so : (v : Values) (old new : DiskState) → is_unclaimed old.bytes ≡ true → IsBegunFile v (synced old) new
+    → IsOpening v old new
+begun_so v old new is (inl same) = inr (inl same)
+begun_so v old new is (inr begun) = inr (inr (is, begun))
 
-begun_so : (v : Values) (old mid new : DiskState) → mid ≡ synced old → is_unclaimed old.bytes ≡ true
-    → IsBegunFile v mid new → IsOpening v old new
-begun_so v old mid new so is (inl same) = inr (inl (same ∙ so))
-begun_so v old mid new so is (inr begun) =
-    inr (inr (is, subst (λ (d : DiskState). Throughout (synced d) new (IsNewStudy v)) so begun))
-
-failed_so : (v : Values) (old mid new : DiskState) → mid ≡ synced old
-    → (is_unclaimed old.bytes ≡ true) ⊎ (is_foreign old.bytes ≡ true) → IsNotClaimed v Disk mid new → IsOpening v old new
-failed_so v old mid new so (inl is) made =
-    begun_so v old mid new so is (made.0 (subst (λ (d : DiskState). is_unclaimed d.bytes ≡ true) (sym so) is))
-failed_so v old mid new so (inr is) made =
-    inr (inl (made.2 (subst (λ (d : DiskState). is_foreign d.bytes ≡ true) (sym so) is) ∙ so))
-
-pub left_so : (v : Values) (fault : JournalFault) (old mid new : DiskState) → mid ≡ synced old
-    → reading v old.bytes ≡ Err NoStudy → IsNotClaimed v fault mid new → IsOpening v old new
-left_so v Memory old mid new so none made = inr (inl (made ∙ so))
-left_so v Disk old mid new so none made = failed_so v old mid new so
-    (foreign_or (is_study old.bytes) (is_unclaimed old.bytes) (no_study v old.bytes none)) made
-left_so v NoStudy old mid new so none made = inr (inl (made.1 ∙ so))
-left_so v Held old mid new so none made =
-    absurd (some_read v old.bytes (subst (λ (d : DiskState). is_study d.bytes ≡ true) so made.0) none)
-left_so v fault old mid new so none made = absurd made
+refused_so : (v : Values) (fault : JournalFault) (old new : DiskState) → reading v old.bytes ≡ Err NoStudy
+    → IsNotClaimed v fault (synced old) new → IsNotOpened v fault old new
+refused_so v Memory old new none made = (tt, inr (inl made))
+refused_so v Disk old new none made = (tt, elim (cases_Bool (is_unclaimed old.bytes)) [
+  | inl is ↦ begun_so v old new is (made.0 is)
+  | inr other ↦ inr (inl (made.2 (rw (no_study v old.bytes none, other) refl)))
+])
+refused_so v NoStudy old new none made = (made.0, inr (inl made.1))
+refused_so v Held old new none made = absurd (some_read v old.bytes made.0 none)
+refused_so v fault old new none made = absurd made
 
 -- an opening that was refused, by its two steps
 pub not_opened : (v : Values) (first fault : JournalFault) (old mid new : DiskLog) → first ≡ NoStudy
@@ -88,10 +66,8 @@ not_opened v first fault old mid new is before last =
     record {
       known = last.known ∙ before.known;
       state = λ known. (let was = subst (λ (f : JournalFault). IsRefused v f (on old) (on mid)) is (before.state known) in
-          let after = last.state (before.known ∙ known) in (
-            refused_so v fault (on old) (on mid) (on new) was.1 was.0 after,
-            left_so v fault (on old) (on mid) (on new) was.1 was.0 after,
-          ));
+          refused_so v fault (on old) (on new) was.0 (subst (λ (d : DiskState). IsNotClaimed v fault d (on new)) was.1
+          (last.state (before.known ∙ known))));
       faults = last.faults ∙ ap (fault_counts fault)
           (subst (λ (f : JournalFault). mid.failed ≡ fault_counts f old.failed) is before.faults);
     }

@@ -25,23 +25,16 @@ use Rattle.cut_journal.proofs.Series.{none_of}
 reopened : (v : Values) (s : StudyState) (keep : Bool) (slips : List Slip) → s.ledger.plan ≡ v → s.has_journal ≡ true
     → slips_found s keep ≡ slips
     → (size : ℕ) → after s (CrashReopen keep size) ≡ opened v true slips size
-reopened v s keep slips plan journal found size =
-    ap (λ (u : Values). opened u s.has_journal (slips_found s keep) size) plan
-    ∙ ap (λ (h : Bool). opened v h (slips_found s keep) size) journal
-    ∙ ap (λ (l : List Slip). opened v true l size) found
+reopened v s keep slips plan journal found size = rw (found, plan, journal) refl
 
 resumed : (v : Values) (s : StudyState) (ks : List Slip) (doubtful : Option Slip) (bytes : List ℕ) → s.ledger.plan ≡ v
     → s.has_journal ≡ true → s.kept ≡ ks → s.doubtful ≡ doubtful
     → ReadsAs v ks doubtful bytes → IsResumed v s bytes
 resumed v s ks doubtful bytes plan journal kept doubt (inl reads) =
-    let found : slips_found s false ≡ ks = ap (λ (b : Bool). cond b (s.kept ++ []) []) journal ∙ append-nil s.kept
-    ∙ kept in
+    let found : slips_found s false ≡ ks = rw (journal, kept) (append-nil ks) in
     (false, (ks, (reads, reopened v s false ks plan journal found)))
 resumed v s ks doubtful bytes plan journal kept doubt (inr (slip, both)) =
-    let found : slips_found s true ≡ ks ++ slip ∷ [] =
-    ap (λ (b : Bool). cond b (s.kept ++ some_slip s.doubtful) []) journal
-    ∙ ap (λ (l : List Slip). l ++ some_slip s.doubtful) kept
-    ∙ ap (λ (o : Option Slip). ks ++ some_slip o) (doubt ∙ both.0) in
+    let found : slips_found s true ≡ ks ++ slip ∷ [] = rw (journal, kept, doubt, both.0) refl in
     (true, (ks ++ slip ∷ [], (both.1, reopened v s true (ks ++ slip ∷ []) plan journal found)))
 
 pub between_calls : CrashesBetweenCalls
@@ -49,27 +42,16 @@ between_calls v count doubtful d s sound of image is =
     resumed v s (kept_slips v count d) doubtful image of.plan of.journal of.kept of.doubt (sound.images image is)
 
 -- what the run makes of a result that the ledger takes
-not_refused : (s : StudyState) (r : Computed) → s.broken ≡ false → refusal_of s.ledger r ≡ None → refused_code s r
-    ≡ None
-not_refused s r sound fine =
-    ap (λ (b : Bool). (let o : Option FaultCode = cond b (Some code.Checkpoint)
-    (option_map code_of (refusal_of s.ledger r)) in o)) sound ∙ ap (option_map code_of) fine
-
-refused_broken : (s : StudyState) (r : Computed) → s.broken ≡ true → refused_code s r ≡ Some code.Checkpoint
-refused_broken s r broken = ap (λ (b : Bool). (let o : Option FaultCode = cond b (Some code.Checkpoint)
-    (option_map code_of (refusal_of s.ledger r)) in o)) broken
-
 after_failing : (s : StudyState) (r : Computed) → s.broken ≡ false → refusal_of s.ledger r ≡ None
     → after s (HandInDiskFails r) ≡ failed s r
-after_failing s r sound fine = ap (λ (o : Option FaultCode). unless_refused o s (failed s r))
-    (not_refused s r sound fine)
+after_failing s r sound fine = rw (sound, fine) refl
 
 after_broken : (s : StudyState) (r : Computed) → s.broken ≡ true → after s (HandInDiskFails r) ≡ s
-after_broken s r broken = ap (λ (o : Option FaultCode). unless_refused o s (failed s r)) (refused_broken s r broken)
+after_broken s r broken = rw broken refl
 
 after_taking : (s : StudyState) (r : Computed) → s.broken ≡ false → refusal_of s.ledger r ≡ None → after s (HandIn r)
     ≡ taken s r
-after_taking s r sound fine = ap (λ (o : Option FaultCode). unless_refused o s (taken s r)) (not_refused s r sound fine)
+after_taking s r sound fine = rw (sound, fine) refl
 
 in_append : (v : Values) (ks : List Slip) (doubtful : Option Slip) (s : StudyState) (r : Computed) → s.ledger.plan ≡ v
     → s.has_journal ≡ true → s.kept ≡ ks → s.doubtful ≡ doubtful

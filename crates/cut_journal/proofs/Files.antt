@@ -1,20 +1,26 @@
 -- The bytes of a study's file, as the writes of a journal leave them.
-use Rattle.std.proofs.Common.{◌≡◌, ◌∙◌, ◌+◌, ◌++◌, ℕ, List, [], ◌∷◌, length, take, refl, sym, ap, arith}
-use Rattle.std.proofs.Common.{append-nil, append_assoc, length-append}
+use Rattle.std.proofs.Common.{◌≡◌, ◌∙◌, ◌≤◌, ◌+◌, ◌++◌, ℕ, List, [], ◌∷◌, Result, Ok, Err, Some, None, length, take, refl, sym, ap}
+use Rattle.std.proofs.Common.{subst, arith, append-nil, append_assoc, length-append}
+use Rattle.std.specs.Bool.{⊤}
 use Rattle.std.specs.Io.{StartsWith}
 use Rattle.std.specs.List.{flat_map}
 use Rattle.std.proofs.lemmas.Grind.{flat_map-append}
 use Rattle.std.proofs.lemmas.List.{take_at, drop_at}
+use Rattle.cut_plan.specs.Canonical.{canonical_text}
+use Rattle.cut_plan.specs.Failing.{version_of}
 use Rattle.cut_plan.specs.Values.{Values}
-use Rattle.cut_disks.specs.State.{overwritten}
+use Rattle.cut_disks.specs.State.{DiskState, overwritten}
+use Rattle.cut_disks.specs.Laws.{WritesStayInSpan}
 use Rattle.cut_ledger.specs.declared.slip.Slip.{Slip}
-use Rattle.cut_journal.specs.File.{open_gate, closed_gate, prefix_of, file_of, body_of}
-use Rattle.cut_journal.specs.Journal.{ExtendsFile}
-use Rattle.cut_journal.specs.inside.Steps.{BeginsAs}
-use Rattle.cut_journal.proofs.Appends.{put_of, long_body}
+use Rattle.cut_journal.specs.File.{HoldsAllTotals, open_gate, closed_gate, prefix_of, file_of, body_of}
+use Rattle.cut_journal.specs.Journal.{ExtendsFile, IsFileOf, ReadsAs, kept_slips}
+use Rattle.cut_journal.specs.Reading.{reading}
+use Rattle.cut_journal.specs.inside.Steps.{BeginsAs, HasBegun, HasNumbers, KeepsSlip, WritesNew, WritesThrough}
+use Rattle.cut_journal.proofs.Appends.{put_of, long_body, first_step, second_step}
+use Rattle.cut_journal.proofs.Moments.{and_then, on_ok}
 use Rattle.cut_journal.proofs.Prefixes.{long_prefix}
 use Rattle.cut_journal.proofs.Gates.{gate_first, gate_next}
-use Rattle.cut_journal.proofs.Makings.{whole_prefix}
+use Rattle.cut_journal.proofs.Makings.{whole_prefix, open_step, open_reads}
 use Rattle.cut_journal.specs.inside.Places.{gate_place}
 
 begins : (bytes prefix rest : List ℕ) → bytes ≡ prefix ++ rest → StartsWith bytes prefix
@@ -22,7 +28,7 @@ begins bytes prefix rest is = ap (take (length prefix)) is ∙ take_at prefix re
 
 -- ---- a new study
 
-pub new_file : (v : Values) (bytes : List ℕ) → BeginsAs v bytes
+new_file : (v : Values) (bytes : List ℕ) → BeginsAs v bytes
     → StartsWith (overwritten bytes 0 (open_gate ∷ [])) (file_of v [])
 new_file v bytes begun =
     let rest : List ℕ = begun.1.0 in
@@ -30,6 +36,18 @@ new_file v bytes begun =
     (ap (λ (l : List ℕ). overwritten l 0 (open_gate ∷ [])) begun.1.1.0 ∙ whole_prefix v rest
     ∙ ap (λ (l : List ℕ). l ++ (closed_gate ∷ rest)) (sym (append-nil (prefix_of v)))
     ∙ sym (append_assoc (prefix_of v ++ []) (closed_gate ∷ []) rest))
+
+pub new_opened : {E : Type 0} (result : Result ⊤ E) (v : Values) (old new : DiskState) → length (canonical_text v)
+    ≤ 65536 → WritesStayInSpan → HasBegun v old → WritesThrough result 0 (open_gate ∷ []) old new
+    → WritesNew result v old new
+new_opened result v old new short stay begun is =
+    let opened = open_step result v old new short stay begun.durable begun.begins is in record {
+      moments = opened.moments;
+      durable = on_ok result _ opened.durable;
+      made = on_ok result _ (λ ok. ap (reading v) (opened.bytes ok) ∙ open_reads v old.bytes short begun.begins);
+      file = on_ok result _ (λ ok. subst (λ (l : List ℕ). StartsWith l (file_of v [])) (sym (opened.bytes ok))
+          (new_file v old.bytes begun.begins));
+    }
 
 -- ---- one slip more
 
@@ -70,15 +88,28 @@ more_slips v slips s = flat_map-append (gated v) slips (s ∷ [])
     ∙ ap (λ (l : List ℕ). gated_slips v slips ++ l) (append-nil (gated v s))
 
 -- the two writes of an append
-pub extended : (v : Values) (n : ℕ) (slip : Slip) (old mid new : List ℕ) → mid
+extended : (v : Values) (n : ℕ) (slip : Slip) (old mid new : List ℕ) → mid
     ≡ overwritten old (gate_place v n + 1) (put_of v slip) → new ≡ overwritten mid (gate_place v n) (open_gate ∷ [])
     → ExtendsFile v n slip old new
 extended v n slip old mid new wrote opened =
     grind (arith, long_file, length-append, append_assoc, drop_at, begins, regrouped, more_slips)
 
--- at the place of the gate
-pub extended_at : (v : Values) (n place : ℕ) (slip : Slip) (old mid new : List ℕ) → place ≡ gate_place v n → mid
-    ≡ overwritten old (place + 1) (put_of v slip) → new ≡ overwritten mid place (open_gate ∷ [])
-    → ExtendsFile v n slip old new
-extended_at v n place slip old mid new here wrote opened =
-    grind (arith, extended)
+-- ---- a slip is kept
+
+pub keeps : {E : Type 0} (result : Result ⊤ E) (v : Values) (n place : ℕ) (slip : Slip) (put : List ℕ)
+    (old mid new : DiskState) → place ≡ gate_place v n → WritesStayInSpan → IsFileOf v n None old → HasNumbers slip
+    → HoldsAllTotals (version_of v.failing) slip.totals → put ≡ put_of v slip
+    → WritesThrough {E = E} (Ok tt) (place + 1) put old mid → WritesThrough result place (open_gate ∷ []) mid new
+    → KeepsSlip result v n slip old new
+keeps {E} result v n place slip put old mid new here stay sound fits reports made before is =
+    let wrote : WritesThrough {E = E} (Ok tt) (gate_place v n + 1) (put_of v slip) old mid = rw (here, made) at before in
+    let first = first_step {E = E} (Ok tt) v n slip (put_of v slip) old mid stay sound wrote in
+    let second = second_step result v n slip old mid new stay sound fits reports (first.bytes refl) (first.durable refl)
+    (subst (λ (p : ℕ). WritesThrough result p (open_gate ∷ []) mid new) here is) in record {
+      moments = and_then (ReadsAs v (kept_slips v n old) (Some slip)) old mid new first.moments second.0.moments;
+      left = second.0.left;
+      kept = on_ok result _ second.1;
+      file = on_ok result _
+          (λ ok. extended v n slip old.bytes mid.bytes new.bytes (first.bytes refl) (second.0.bytes ok));
+      durable = on_ok result _ second.0.durable;
+    }

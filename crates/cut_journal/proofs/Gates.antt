@@ -13,18 +13,11 @@ pub nine_numbers : (version : Version) → 72 ≤ numbers_length version
 nine_numbers One = omega arith
 nine_numbers Two = omega arith
 
-first_at : (version : Version) (text : ℕ) → text + 45 + slip_length version * 0 ≡ text + 45
-first_at One text = omega arith
-first_at Two text = omega arith
-
-next_at : (version : Version) (text i : ℕ) → text + 45 + slip_length version * (i + 1) ≡ text + 45
-    + slip_length version * i + slip_length version
-next_at One text i = omega arith
-next_at Two text i = omega arith
-
-far_at : (version : Version) (text i : ℕ) → i + 45 ≤ text + 45 + slip_length version * i
-far_at One text i = omega arith
-far_at Two text i = omega arith
+gates_at : (version : Version) (text i : ℕ) → (text + 45 + slip_length version * 0 ≡ text + 45)
+    × (text + 45 + slip_length version * (i + 1) ≡ text + 45 + slip_length version * i + slip_length version)
+    × (i + 45 ≤ text + 45 + slip_length version * i)
+gates_at One text i = (omega arith, omega arith, omega arith)
+gates_at Two text i = (omega arith, omega arith, omega arith)
 
 rises_at : (version : Version) (text i k : ℕ) → i < k → text + 45 + slip_length version * i + slip_length version ≤ text
     + 45 + slip_length version * k
@@ -34,17 +27,17 @@ rises_at Two text i k low = omega (arith, low)
 -- the first gate
 pub gate_first : (v : Values) → gate_place v 0 ≡ length (canonical_text v) + 45
 unfolding gate_place
-gate_first v = first_at (version_of v.failing) (length (canonical_text v))
+gate_first v = (gates_at (version_of v.failing) (length (canonical_text v)) 0).0
 
 -- the gate after a slip's
 pub gate_next : (v : Values) (i : ℕ) → gate_place v (i + 1) ≡ gate_place v i + slip_length (version_of v.failing)
 unfolding gate_place
-gate_next v i = next_at (version_of v.failing) (length (canonical_text v)) i
+gate_next v i = (gates_at (version_of v.failing) (length (canonical_text v)) i).1
 
 -- there are fewer slips before a gate than bytes
 pub gate_far : (v : Values) (i : ℕ) → i + 45 ≤ gate_place v i
 unfolding gate_place
-gate_far v i = far_at (version_of v.failing) (length (canonical_text v)) i
+gate_far v i = (gates_at (version_of v.failing) (length (canonical_text v)) i).2
 
 -- a slip before a gate ends there at the latest
 pub gate_rises : (v : Values) (i k : ℕ) → i < k → gate_place v i + slip_length (version_of v.failing) ≤ gate_place v k

@@ -16,34 +16,26 @@ use Rattle.cut_plan.specs.Values.{Values}
 use Rattle.cut_plan.specs.Canonical.{canonical_text}
 use Rattle.cut_journal.specs.File.{open_gate, magic_of, header_of, header_digest, prefix_of}
 use Rattle.cut_journal.specs.Reading.{text_length, is_magic, can_have_header, has_header, says_plan, has_magic}
-use Rattle.cut_journal.proofs.Counts.{alike_part}
+use Rattle.cut_journal.specs.inside.Steps.{IsOfPlan}
+use Rattle.cut_journal.proofs.Counts.{alike_part, alike_place}
 use Rattle.cut_journal.proofs.Prefixes.{long_header, long_prefix}
 use Rattle.cut_journal.proofs.Gates.{gate_first}
 use Rattle.cut_journal.specs.inside.Places.{gate_place}
 
-letters_at : (version : Version) (size text digest : List ℕ)
-    → slice_range (open_gate ∷ ((magic_of version ++ size) ++ text) ++ digest) 1 9 ≡ magic_of version
-letters_at One size text digest = refl
-letters_at Two size text digest = refl
-
-letters_of : (v : Values) → slice_range (prefix_of v) 1 9 ≡ magic_of (version_of v.failing)
-unfolding prefix_of header_of
-letters_of v = letters_at (version_of v.failing) (to_be_bytes w32 (length (canonical_text v))) (canonical_text v)
-    (header_digest v)
-
-is_magic_of : (version : Version) → is_magic (magic_of version) ≡ true
+-- the letters and the length that a study's file begins with
+parts_at : (version : Version) (n : ℕ) (text digest : List ℕ)
+    → (slice_range (open_gate ∷ ((magic_of version ++ to_be_bytes w32 n) ++ text) ++ digest) 1 9 ≡ magic_of version)
+    × (slice_range (open_gate ∷ ((magic_of version ++ to_be_bytes w32 n) ++ text) ++ digest) 9 13 ≡ to_be_bytes w32 n)
+    × (is_magic (magic_of version) ≡ true)
 unfolding is_magic
-is_magic_of One = refl
-is_magic_of Two = refl
+parts_at One n text digest = (refl, refl, refl)
+parts_at Two n text digest = (refl, refl, refl)
 
-size_at : (version : Version) (n : ℕ) (text digest : List ℕ)
-    → slice_range (open_gate ∷ ((magic_of version ++ to_be_bytes w32 n) ++ text) ++ digest) 9 13 ≡ to_be_bytes w32 n
-size_at One n text digest = refl
-size_at Two n text digest = refl
-
-size_of : (v : Values) → slice_range (prefix_of v) 9 13 ≡ to_be_bytes w32 (length (canonical_text v))
+parts_of : (v : Values) → (slice_range (prefix_of v) 1 9 ≡ magic_of (version_of v.failing))
+    × (slice_range (prefix_of v) 9 13 ≡ to_be_bytes w32 (length (canonical_text v)))
+    × (is_magic (magic_of (version_of v.failing)) ≡ true)
 unfolding prefix_of header_of
-size_of v = size_at (version_of v.failing) (length (canonical_text v)) (canonical_text v) (header_digest v)
+parts_of v = parts_at (version_of v.failing) (length (canonical_text v)) (canonical_text v) (header_digest v)
 
 header_in : (v : Values) (n : ℕ) → n ≡ length (canonical_text v) → slice_range (prefix_of v) 1 (n + 13) ≡ header_of v
 unfolding prefix_of
@@ -55,21 +47,6 @@ digest_in : (v : Values) (n : ℕ) → n ≡ length (canonical_text v) → slice
 unfolding prefix_of header_digest
 digest_in v n is =
     grind (arith, long_header, length-sha256, drop_at, take_all)
-
-pub both : (a b : Bool) → (a && b) ≡ true → (a ≡ true) × (b ≡ true)
-both true b is = (refl, is)
-both false b is = absurd (cc)
-
-pub together : (a b : Bool) → a ≡ true → b ≡ true → (a && b) ≡ true
-together a b p q = cc
-
-if_same : (a b c : Bool) → (a ≡ true → b ≡ c) → (a && b) ≡ (a && c)
-if_same true b c same = same refl
-if_same false b c same = refl
-
-all_five : (a b c d e : Bool) → a ≡ true → b ≡ true → c ≡ true → d ≡ true → e ≡ true → ((((a && b) && c) && d) && e)
-    ≡ true
-all_five a b c d e p q r s t = cc
 
 text_in : (v : Values) (n : ℕ) → n ≡ length (canonical_text v) → slice_range (prefix_of v) 13 (n + 13)
     ≡ canonical_text v
@@ -97,16 +74,10 @@ unfolding says_plan
 says_same v bytes digits text n read is mine long =
     grind arith
 
--- bytes that begin as the file of a plan's study
-pub record Begins (v : Values) (bytes : List ℕ) : Type 0 where
-  pub header : has_header bytes ≡ true
-  pub text : says_plan v bytes ≡ true
-  pub letters : has_magic v bytes ≡ true
-
--- have a whole header, of this plan
+-- bytes that begin as the file of a plan's study have a whole header, of this plan
 pub prefix_begins : (v : Values) (bytes : List ℕ) → length (canonical_text v) ≤ 65536 → gate_place v 0 < length bytes
-    → take (gate_place v 0) bytes ≡ prefix_of v → Begins v bytes
-unfolding has_header can_have_header says_plan has_magic
+    → take (gate_place v 0) bytes ≡ prefix_of v → IsOfPlan v bytes
+unfolding prefix_of has_header can_have_header says_plan has_magic
 prefix_begins v bytes short long prefix =
     let n : ℕ = text_length bytes in
     let m : ℕ = gate_place v 0 in
@@ -115,26 +86,18 @@ prefix_begins v bytes short long prefix =
     let alike : take m bytes ≡ take m (prefix_of v) = prefix
     ∙ sym (take_all m (prefix_of v) (omega (arith, size, place))) in
     let is : n ≡ length (canonical_text v) =
-    ap (from_be_bytes w32) (alike_part m 9 13 bytes (prefix_of v) alike (omega (arith, place)) ∙ size_of v)
+    ap (from_be_bytes w32) (alike_part m 9 13 bytes (prefix_of v) alike (omega (arith, place)) ∙ (parts_of v).1)
     ∙ from_be_bytes-to_be_bytes_4 (length (canonical_text v)) (omega (arith, short)) in
-    let letters = alike_part m 1 9 bytes (prefix_of v) alike (omega (arith, place)) ∙ letters_of v in
+    let letters = alike_part m 1 9 bytes (prefix_of v) alike (omega (arith, place)) ∙ (parts_of v).0 in
     let text = alike_part m 13 (n + 13) bytes (prefix_of v) alike (omega (arith, is, place)) ∙ text_in v n is in
     let header = alike_part m 1 (n + 13) bytes (prefix_of v) alike (omega (arith, is, place)) ∙ header_in v n is in
     let digest = alike_part m (n + 13) (n + 45) bytes (prefix_of v) alike (omega (arith, is, place)) ∙ digest_in v n is
     in
     record {
-      header =
-          all_five (nat_le 13 (length bytes)) (is_magic (slice_range bytes 1 9)) (nat_le n 65536)
-          (nat_le (n + 46) (length bytes))
-          (bytes_eq (sha256 (slice_range bytes 1 (n + 13))) (slice_range bytes (n + 13) (n + 45)))
-          (grind (arith, nat_tests, long, place)) (ap is_magic letters ∙ is_magic_of (version_of v.failing))
-          (grind (arith, nat_tests, short, is)) (grind (arith, nat_tests, long, is, place))
-          ((bytes_eq-Decides (sha256 (slice_range bytes 1 (n + 13))) (slice_range bytes (n + 13) (n + 45))).1
-          (ap sha256 header ∙ sym digest));
-      text = together (n == length (canonical_text v)) (bytes_eq (slice_range bytes 13 (n + 13)) (canonical_text v))
-          ((Decides-eqb n (length (canonical_text v))).1 is)
-          ((bytes_eq-Decides (slice_range bytes 13 (n + 13)) (canonical_text v)).1 text);
-      letters = (bytes_eq-Decides (slice_range bytes 1 9) (magic_of (version_of v.failing))).1 letters;
+      study = grind (arith, nat_tests, alike_place m 0 bytes (prefix_of v) alike);
+      header = grind (arith, nat_tests, bytes_eq-Decides, (parts_of v).2);
+      text = grind (arith, nat_tests, bytes_eq-Decides);
+      letters = grind (arith, bytes_eq-Decides);
     }
 
 -- ---- bytes that begin alike
@@ -168,20 +131,14 @@ pub header_alike : (m : ℕ) (bytes others : List ℕ) → take m others ≡ tak
 unfolding has_header
 header_alike m bytes others alike long room size has =
     let n : ℕ = text_length bytes in
-    let parts = both (can_have_header bytes) (bytes_eq (sha256 (slice_range bytes 1 (n + 13)))
-    (slice_range bytes (n + 13) (n + 45))) has in
     let is : text_length others ≡ n = ap (from_be_bytes w32)
     (alike_part m 9 13 others bytes alike (omega (arith, room))) in
-    let digest : bytes_eq (sha256 (slice_range others 1 (text_length others + 13)))
-    (slice_range others (text_length others + 13) (text_length others + 45)) ≡ true =
-    ap (λ (k : ℕ). bytes_eq (sha256 (slice_range others 1 (k + 13))) (slice_range others (k + 13) (k + 45))) is
-    ∙ ap (λ (l : List ℕ). bytes_eq (sha256 l) (slice_range others (n + 13) (n + 45)))
-    (alike_part m 1 (n + 13) others bytes alike (omega (arith, size)))
-    ∙ ap (λ (l : List ℕ). bytes_eq (sha256 (slice_range bytes 1 (n + 13))) l)
-    (alike_part m (n + 13) (n + 45) others bytes alike (omega (arith, size))) ∙ parts.1 in
-    together (can_have_header others) (bytes_eq (sha256 (slice_range others 1 (text_length others + 13)))
-    (slice_range others (text_length others + 13) (text_length others + 45)))
-    (can_alike m bytes others alike long room size parts.0) digest
+    grind (
+      arith,
+      can_alike m bytes others alike long room size,
+      alike_part m 1 (n + 13) others bytes alike (omega (arith, size)),
+      alike_part m (n + 13) (n + 45) others bytes alike (omega (arith, size)),
+    )
 
 -- what a header says of a plan is decided by its bytes
 pub says_alike : (v : Values) (bytes others : List ℕ) → take (gate_place v 0) others ≡ take (gate_place v 0) bytes
@@ -192,14 +149,9 @@ says_alike v bytes others alike =
     let place : m ≡ length (canonical_text v) + 45 = gate_first v in
     let is : text_length others ≡ text_length bytes = ap (from_be_bytes w32)
     (alike_part m 9 13 others bytes alike (omega (arith, place))) in
-    ap (λ (k : ℕ). (k == length (canonical_text v)) && bytes_eq (slice_range others 13 (k + 13)) (canonical_text v)) is
-    ∙ if_same (text_length bytes == length (canonical_text v))
-    (bytes_eq (slice_range others 13 (text_length bytes + 13)) (canonical_text v))
-    (bytes_eq (slice_range bytes 13 (text_length bytes + 13)) (canonical_text v))
-    (λ same. (let long : text_length bytes ≡ length (canonical_text v) =
-    (Decides-eqb (text_length bytes) (length (canonical_text v))).0 same in
-    ap (λ (l : List ℕ). bytes_eq l (canonical_text v))
-    (alike_part m 13 (text_length bytes + 13) others bytes alike (omega (arith, place, long)))))
+    let text = λ (low : text_length bytes + 13 ≤ m).
+    alike_part m 13 (text_length bytes + 13) others bytes alike low in
+    grind (arith, nat_tests, is, text)
 
 pub magic_alike : (v : Values) (bytes others : List ℕ) → take (gate_place v 0) others ≡ take (gate_place v 0) bytes
     → has_magic v others ≡ has_magic v bytes
@@ -207,7 +159,7 @@ unfolding has_magic
 magic_alike v bytes others alike =
     grind (arith, gate_first v, alike_part (gate_place v 0) 1 9 others bytes alike)
 
-pub begin_alike : (v : Values) (bytes others : List ℕ) → take (gate_place v 0) others ≡ take (gate_place v 0) bytes
-    → gate_place v 0 < length others → Begins v bytes → Begins v others
-begin_alike v bytes others alike long begins =
-    grind (arith, gate_first, says_length, header_alike, says_alike, magic_alike)
+pub of_plan_alike : (v : Values) (bytes others : List ℕ) → take (gate_place v 0) others ≡ take (gate_place v 0) bytes
+    → gate_place v 0 < length others → IsOfPlan v bytes → IsOfPlan v others
+of_plan_alike v bytes others alike long is =
+    grind (arith, nat_tests, gate_first, says_length, header_alike, says_alike, magic_alike, alike_place)

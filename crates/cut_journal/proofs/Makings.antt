@@ -14,28 +14,24 @@ use Rattle.cut_journal.specs.File.{open_gate, closed_gate, prefix_of, header_of,
 use Rattle.cut_journal.specs.inside.File.{rest_of}
 use Rattle.cut_journal.specs.Reading.{is_study, reading}
 use Rattle.cut_journal.specs.Opening.{IsNewStudy, IsNotMade}
-use Rattle.cut_journal.specs.inside.Steps.{BeginsAs, WritesThrough}
-use Rattle.cut_journal.proofs.Moments.{Through, through_is, stays, settled_images}
+use Rattle.cut_journal.specs.inside.Steps.{BeginsAs, WritesNew, WritesThrough}
+use Rattle.cut_journal.proofs.Moments.{Through, and_then, settled_images, stays, through_is, weaker}
 use Rattle.cut_journal.proofs.Appends.{torn_rest}
 use Rattle.cut_journal.proofs.Prefixes.{long_prefix}
 use Rattle.cut_journal.proofs.Gates.{gate_first}
-use Rattle.cut_journal.proofs.Readings.{of_plan_from, holds_reads, none_read}
+use Rattle.cut_journal.proofs.Headers.{prefix_begins}
+use Rattle.cut_journal.proofs.Readings.{holds_reads, none_read}
 use Rattle.cut_journal.specs.inside.Places.{gate_place}
-use Rattle.cut_plan.proofs.Counting.{over_and}
 
 -- no study
 abbrev pub IsNone : List ℕ → Type 0
 IsNone bytes = is_study bytes ≡ false
 
-left_false : (a b : Bool) → a ≡ false → (a && b) ≡ false
-left_false a b none = ap (λ c. c && b) none
-
 pub short_none : (bytes : List ℕ) → length bytes ≤ 1 → IsNone bytes
-short_none bytes short = left_false (nat_lt 1 (length bytes)) (slice_index bytes 0 == open_gate)
-    (let e : nat_lt 1 (length bytes) ≡ false = grind (arith, nat_tests) in e)
+short_none bytes short = grind (arith, nat_tests)
 
 pub closed_none : (bytes : List ℕ) → (slice_index bytes 0 == open_gate) ≡ false → IsNone bytes
-closed_none bytes closed = over_and (nat_lt 1 (length bytes)) (slice_index bytes 0 == open_gate) closed
+closed_none bytes closed = grind (arith, nat_tests)
 
 pub close_step : {E : Type 0} (result : Result ⊤ E) (old new : DiskState) → WritesStayInSpan → old.stable
     ≡ settled old.bytes → length old.bytes ≤ 1
@@ -78,10 +74,9 @@ new_read v rest short =
     let shut : get_or bytes (gate_place v 0) 0 ≡ 0 =
     ap (λ (l : List ℕ). get_or l (gate_place v 0) 0) is
     ∙ get_or-append_right (prefix_of v) (closed_gate ∷ rest) (gate_place v 0) (gate_place v 0) 0 size (omega arith)
-    ∙ ap (λ (k : ℕ). get_or (closed_gate ∷ rest) k 0) (let e : gate_place v 0 - gate_place v 0 ≡ 0 = omega arith in e)
-    in
+    ∙ rw (let e : gate_place v 0 - gate_place v 0 ≡ 0 = omega arith in e) refl in
     holds_reads v bytes 0 (record {
-      prefix = of_plan_from v bytes short there prefix;
+      prefix = prefix_begins v bytes short there prefix;
       whole = λ i low. absurd (omega (arith, low));
       closed = ap (λ (b : ℕ). b == open_gate) shut;
     })
@@ -129,3 +124,14 @@ write_failed v old mid new durable none moments = grind (arith, none_read)
 
 pub none_new : (v : Values) (bytes : List ℕ) → IsNone bytes → IsNewStudy v bytes
 none_new v bytes none = inl (none_read v bytes none)
+
+-- the gate is closed, the rest is written, and the gate is opened
+pub new_written : {E : Type 0} (result : Result ⊤ E) (v : Values) (old shut rest new : DiskState)
+    → Throughout old shut IsNone → Throughout shut rest IsNone → WritesNew result v rest new → WritesNew result v old new
+new_written result v old shut rest new first second last = record {
+  moments = and_then (IsNewStudy v) old rest new
+      (weaker IsNone (IsNewStudy v) (none_new v) old rest (and_then IsNone old shut rest first second)) last.moments;
+  durable = last.durable;
+  made = last.made;
+  file = last.file;
+}

@@ -23,7 +23,7 @@ use Rattle.cut_journal.specs.Reading.{has_header, is_slip, slip_in, slips_readin
 use Rattle.cut_journal.specs.inside.Steps.{AreRead, AreWhole, Finds, IsOfPlan, IsSlipFault}
 use Rattle.cut_journal.proofs.Places.{slip_at, slips_at, closed_at, damaged_at, read_on, are_placed, never_none}
 use Rattle.cut_journal.proofs.Gates.{gate_first, gate_next, gate_far, gate_rises, nine_numbers}
-use Rattle.cut_journal.proofs.Headers.{prefix_begins, begin_alike, says_length, has_can, header_room}
+use Rattle.cut_journal.proofs.Headers.{of_plan_alike, says_length, has_can, header_room}
 use Rattle.cut_journal.proofs.Counts.{map_alike, alike_place, alike_prefix, alike_part}
 use Rattle.cut_journal.specs.inside.Places.{body_at, first_slips, gate_place, is_open, is_whole}
 
@@ -35,25 +35,11 @@ pub record Holds (v : Values) (bytes : List ℕ) (n : ℕ) : Type 0 where
 
 -- ---- the first bytes
 
-prefix_opens : (v : Values) → get_or (prefix_of v) 0 0 ≡ open_gate
-unfolding prefix_of
-prefix_opens v = refl
-
-pub of_plan_from : (v : Values) (bytes : List ℕ) → length (canonical_text v) ≤ 65536 → gate_place v 0 < length bytes
-    → take (gate_place v 0) bytes ≡ prefix_of v → IsOfPlan v bytes
-of_plan_from v bytes short long is =
-    grind (arith, prefix_begins v bytes short long is, prefix_opens v)
-
 -- the gate of the first slip is there
 pub first_there : (v : Values) (bytes : List ℕ) → has_header bytes ≡ true → says_plan v bytes ≡ true → gate_place v 0
     < length bytes
 first_there v bytes header text =
     grind (arith, header_room, has_can, says_length, gate_first)
-
-of_plan_alike : (v : Values) (bytes others : List ℕ) → take (gate_place v 0) others ≡ take (gate_place v 0) bytes
-    → gate_place v 0 < length others → IsOfPlan v bytes → IsOfPlan v others
-of_plan_alike v bytes others alike long is =
-    grind (arith, gate_first, begin_alike)
 
 -- ---- the slips
 
@@ -66,19 +52,6 @@ pub whole_from : (v : Values) (bytes : List ℕ) (i : ℕ) → gate_place v (i +
     → is_slip v (body_at v bytes i) ≡ true → is_whole v bytes i ≡ true
 whole_from v bytes i long is =
     grind arith
-
-pub opens_at : (v : Values) (bytes : List ℕ) (i at : ℕ) (is : Bool) → at ≡ gate_place v i → is
-    ≡ (slice_index bytes at == open_gate) → is ≡ true → is_open v bytes i ≡ true
-opens_at v bytes i at is here reported opens = ap (λ (p : ℕ). slice_index bytes p == open_gate) (sym here)
-    ∙ sym reported ∙ opens
-
--- what was read after a gate stands there
-pub body_read : (v : Values) (i at k : ℕ) (zeros : List ℕ) (old mid : DiskState) (body : List ℕ) → at ≡ gate_place v i
-    → k ≡ slip_length (version_of v.failing) → 1 ≤ k → k ≤ 113 → mid ≡ old
-    → body ≡ slice_range mid.bytes (at + 1) (at + 1 + length (take (k - 1) zeros)) → length zeros ≡ 112 → body
-    ≡ body_at v old.bytes i
-body_read v i at k zeros old mid body here long least most same read buffer =
-    grind (arith, gate_next, length-take)
 
 pub next_broken : (v : Values) (bytes body : List ℕ) (i : ℕ) (found : Option Slip) → found
     ≡ cond (is_slip v body) (Some (slip_in (version_of v.failing) body)) None → body ≡ body_at v bytes i

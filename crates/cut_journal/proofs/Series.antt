@@ -21,23 +21,23 @@ reads_on v kept e bytes (inr other) = absurd (cc (other.1.0))
 abbrev pub LeavesDoubt : Option Slip → Option Slip → List Slip → Type 0
 LeavesDoubt d e ys = (d ≡ None) ⊎ ((ys ≡ []) × (e ≡ d))
 
--- moments at which only the kept slips are there, before others
+-- moments at which only the kept slips are there
+only_kept : (v : Values) (kept : List Slip) (d e : Option Slip) (old mid : DiskState) → LeavesDoubt d e []
+    → Throughout old mid (ReadsAs v kept d) → Throughout old mid (ReadsAs v kept e)
+only_kept v kept d e old mid (inl none) before =
+    weaker (ReadsAs v kept None) (ReadsAs v kept e) (reads_on v kept e) old mid (rw none at before)
+only_kept v kept d e old mid (inr same) before = rw same.1 before
+
+-- before others
 begun_with : (v : Values) (kept ys : List Slip) (d e : Option Slip) (old mid new : DiskState) → LeavesDoubt d e ys
     → Throughout old mid (ReadsAs v kept d)
     → AppendsEach v kept e ys mid new → AppendsEach v kept e ys old new
-begun_with v kept [] d e old mid new (inl none) before after =
-    and_then (ReadsAs v kept e) old mid new
-    (weaker (ReadsAs v kept None) (ReadsAs v kept e) (reads_on v kept e) old mid
-    (subst (λ (o : Option Slip). Throughout old mid (ReadsAs v kept o)) none before)) after
-begun_with v kept [] d e old mid new (inr same) before after =
-    and_then (ReadsAs v kept e) old mid new (subst (λ (o : Option Slip). Throughout old mid (ReadsAs v kept o))
-    (sym same.1) before) after
+begun_with v kept [] d e old mid new doubt before after =
+    and_then (ReadsAs v kept e) old mid new (only_kept v kept d e old mid doubt before) after
 begun_with v kept (y ∷ ys) d e old mid new (inl none) before after = (
   after.0,
   (
-    and_then (ReadsAs v kept (Some y)) old mid after.0
-        (weaker (ReadsAs v kept None) (ReadsAs v kept (Some y)) (reads_on v kept (Some y)) old mid
-        (subst (λ (o : Option Slip). Throughout old mid (ReadsAs v kept o)) none before)) after.1.0,
+    and_then (ReadsAs v kept (Some y)) old mid after.0 (only_kept v kept d (Some y) old mid (inl none) before) after.1.0,
     after.1.1,
   ),
 )

@@ -5,7 +5,7 @@ use Rattle.std.specs.List.{flat_map}
 use Rattle.std.specs.Int.{w64, to_be_bytes}
 use Rattle.std.proofs.lemmas.Slice.Eq.{bytes_eq-Decides}
 use Rattle.std.proofs.lemmas.List.{take_at, drop_at}
-use Rattle.std.proofs.Math.Seq.{drop-drop}
+use Rattle.std.proofs.Math.Seq.{drop-drop, take-append-add}
 use Rattle.sha2.proofs.Facts256.{length-sha256}
 use Rattle.sha2.specs.Sha256.{sha256}
 use Rattle.cut_fields.specs.declared.version.Version.{Version}
@@ -29,19 +29,14 @@ at_number [] tail i low = absurd (omega arith)
 at_number (x ∷ xs) tail zero low =
     grind arith
 at_number (x ∷ xs) tail (suc i) low =
-    let more : 8 * suc i ≡ 8 + 8 * i = omega arith in
-    let rest : List ℕ = flat_map (to_be_bytes w64) xs ++ tail in
+    let more : 8 * suc i ≡ suc (suc (suc (suc (suc (suc (suc (suc (8 * i)))))))) = omega arith in
     ap (λ (n : ℕ). take 8 (drop n (flat_map (to_be_bytes w64) (x ∷ xs) ++ tail))) more
-    ∙ ap (λ (l : List ℕ). take 8 (drop (8 + 8 * i) l))
-    (append_assoc (to_be_bytes w64 x) (flat_map (to_be_bytes w64) xs) tail)
-    ∙ ap (take 8) (sym (drop-drop (8 * i) 8 (to_be_bytes w64 x ++ rest))
-    ∙ ap (drop (8 * i)) (drop_at (to_be_bytes w64 x) rest 8 refl))
     ∙ at_number xs tail i (omega arith)
 
 long_numbers : (xs : List ℕ) → length (flat_map (to_be_bytes w64) xs) ≡ 8 * length xs
 long_numbers [] = refl
-long_numbers (x ∷ xs) = length-append (to_be_bytes w64 x) (flat_map (to_be_bytes w64) xs)
-    ∙ ap (λ n. 8 + n) (long_numbers xs) ∙ (let e : 8 + 8 * length xs ≡ 8 * suc (length xs) = omega arith in e)
+long_numbers (x ∷ xs) =
+    grind (arith, length-append, long_numbers xs)
 
 pub long_bytes : (version : Version) (s : Slip) → length (number_bytes version s) ≡ numbers_length version
 unfolding number_bytes
@@ -78,29 +73,12 @@ slip_whole v s fits =
 
 -- ---- as they are put together
 
-pub ten : (s : Slip) (a b c d e f h i j k : List ℕ) → a ≡ to_be_bytes w64 s.piece.first → b
-    ≡ to_be_bytes w64 s.piece.count → c ≡ to_be_bytes w64 s.totals.receivers
-    → d ≡ to_be_bytes w64 s.totals.conflicts → e ≡ to_be_bytes w64 s.totals.silent → f ≡ to_be_bytes w64 s.totals.extra
-    → h ≡ to_be_bytes w64 s.totals.votes
-    → i ≡ to_be_bytes w64 s.totals.decided → j ≡ to_be_bytes w64 s.totals.right → k ≡ to_be_bytes w64 s.totals.settled
-    → a ++ (b ++ (c ++ (d ++ (e ++ (f ++ (h ++ (i ++ (j ++ (k ++ []))))))))) ≡ number_bytes Two s
-unfolding number_bytes
-ten s a b c d e f h i j k p q r t u w x y z o = rw (p, q, r, t, u, w, x, y, z, o) refl
-
 -- of ten numbers, a version writes as many as it has
 pub numbers_shown : (version : Version) (s : Slip) → take (numbers_length version) (number_bytes Two s)
     ≡ number_bytes version s
 unfolding number_bytes
 numbers_shown One s = refl
 numbers_shown Two s = refl
-
-take_more : (xs ys : List ℕ) (n k : ℕ) → length xs ≡ n → take (n + k) (xs ++ ys) ≡ xs ++ take k ys
-take_more [] ys zero k long = ap (λ (m : ℕ). take m ys) (let e : 0 + k ≡ k = omega arith in e)
-take_more [] ys (suc n) k long = absurd (omega (arith, long))
-take_more (x ∷ xs) ys zero k long = absurd (omega (arith, long))
-take_more (x ∷ xs) ys (suc n) k long =
-    ap (λ (m : ℕ). take m (x ∷ xs ++ ys)) (let e : suc n + k ≡ suc (n + k) = omega arith in e)
-    ∙ ap (λ (l : List ℕ). x ∷ l) (take_more xs ys n k (omega (arith, long)))
 
 pub slip_made : (v : Values) (s : Slip) (n sum_length : ℕ) (numbers digest zeros : List ℕ) → n
     ≡ numbers_length (version_of v.failing) → sum_length ≡ 32 → numbers ≡ number_bytes (version_of v.failing) s
@@ -117,7 +95,7 @@ slip_made v s n sum_length numbers digest zeros size short is right rest =
     ap (λ (k : ℕ). take (slip_length (version_of v.failing)) (put_mid n k (numbers ++ zeros) digest)) short
     ∙ ap (take (slip_length (version_of v.failing))) (layered n numbers zeros digest long)
     ∙ ap (λ (k : ℕ). take k ((numbers ++ digest) ++ drop 32 zeros))
-    (let e : slip_length (version_of v.failing) ≡ n + 32 + 1 = omega (arith, size) in e)
-    ∙ take_more (numbers ++ digest) (drop 32 zeros) (n + 32) 1 both
+    (let e : slip_length (version_of v.failing) ≡ length (numbers ++ digest) + 1 = omega (arith, size, both) in e)
+    ∙ take-append-add (numbers ++ digest) (drop 32 zeros) 1
     ∙ ap (λ (l : List ℕ). (numbers ++ digest) ++ l) rest ∙ ap (λ (l : List ℕ). (l ++ digest) ++ closed_gate ∷ []) is
     ∙ ap (λ (l : List ℕ). (number_bytes (version_of v.failing) s ++ l) ++ closed_gate ∷ []) right
