@@ -1,5 +1,5 @@
 -- What the two writes of an append leave, whatever crash may come.
-use Rattle.std.proofs.Common.{◌≡◌, ◌∙◌, ◌≤◌, ◌<◌, ◌+◌, ◌-◌, ◌++◌, ◌==◌, inl, inr, ℕ, true, false, List, [], ◌∷◌, Result}
+use Rattle.std.proofs.Common.{◌≡◌, ◌∙◌, ◌≤◌, ◌<◌, ◌+◌, ◌-◌, ◌++◌, inl, inr, ℕ, true, false, List, [], ◌∷◌, Result}
 use Rattle.std.proofs.Common.{Ok, Err, Option, Some, None, unwrap_or, length, take, drop, get_or, refl, sym, ap, subst}
 use Rattle.std.proofs.Common.{arith, append_assoc, length-append, length-drop}
 use Rattle.std.specs.Bool.{⊤}
@@ -10,7 +10,7 @@ use Rattle.std.proofs.lemmas.List.{take_at, drop_at, take_all, length-take, get_
 use Rattle.sha2.proofs.Facts256.{length-sha256}
 use Rattle.cut_plan.specs.Failing.{version_of}
 use Rattle.cut_plan.specs.Values.{Values}
-use Rattle.cut_disks.specs.State.{DiskState, IsImage, IsTorn, Throughout, covers, settled, overwritten}
+use Rattle.cut_disks.specs.State.{DiskState, IsTorn, covers, settled, overwritten}
 use Rattle.cut_disks.specs.Laws.{WritesStayInSpan}
 use Rattle.cut_disks.specs.Log.{DiskLog, Goes, IsKnown, Knows, on}
 use Rattle.cut_faults.specs.Failures.{one_more}
@@ -112,8 +112,14 @@ written_after v n bytes tail slip is =
     let all : drop (gate_place v n + 1) bytes ≡ body_of v slip ++ (closed_gate ∷ tail) =
     is ∙ append_assoc (body_of v slip) (closed_gate ∷ []) tail in
     let size = ap (λ (l : List ℕ). length l) all in (
-      omega (arith, size, length-append (body_of v slip) (closed_gate ∷ tail), long_body v slip, ahead,
-          length-drop (gate_place v n + 1) bytes),
+      omega (
+        arith,
+        size,
+        length-append (body_of v slip) (closed_gate ∷ tail),
+        long_body v slip,
+        ahead,
+        length-drop (gate_place v n + 1) bytes,
+      ),
       grind (arith, all, ahead, take_at, long_body),
       grind (arith, all, ahead, get_or-drop, get_or-append_right, long_body),
     )

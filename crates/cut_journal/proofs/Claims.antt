@@ -1,15 +1,15 @@
 -- What is left of a disk that was not claimed.
-use Rattle.std.proofs.Common.{◌≡◌, ◌&&◌, ◌∙◌, ◌⊎◌, inl, inr, ℕ, Bool, true, false, not, List, Err}
-use Rattle.std.proofs.Common.{refl, sym, ap, subst, arith}
+use Rattle.std.proofs.Common.{◌≡◌, ◌∙◌, inl, inr, ℕ, true, false, List, Err}
+use Rattle.std.proofs.Common.{refl, ap, subst, arith}
 use Rattle.std.proofs.lemmas.Bool.{cases_Bool, false_from_ne_true, true_from_ne_false}
 use Rattle.std.proofs.lemmas.Bool.Decides.{nat_tests}
 use Rattle.cut_plan.specs.Values.{Values}
-use Rattle.cut_disks.specs.State.{DiskState, Throughout, synced}
+use Rattle.cut_disks.specs.State.{DiskState, synced}
 use Rattle.cut_disks.specs.Log.{DiskLog, Goes, on}
 use Rattle.cut_journal.specs.declared.fault.JournalFault.{JournalFault}
 use Rattle.cut_journal.specs.declared.fault.JournalFault.TheVariants.{Memory, Disk, NoStudy, Held}
 use Rattle.cut_journal.specs.Reading.{is_study, reading}
-use Rattle.cut_journal.specs.Opening.{IsNotClaimed, IsNotMade, IsBegunFile, IsNewStudy, IsOpening, IsOpenFault, is_foreign}
+use Rattle.cut_journal.specs.Opening.{IsNotClaimed, IsNotMade, IsBegunFile, IsOpening, is_foreign}
 use Rattle.cut_journal.specs.Opening.{is_unclaimed, IsNotOpened, IsRefused}
 use Rattle.cut_journal.specs.Journal.{fault_counts}
 use Rattle.cut_journal.proofs.Makings.{closed_none, short_none}
@@ -50,10 +50,13 @@ begun_so v old new is (inr begun) = inr (inr (is, begun))
 refused_so : (v : Values) (fault : JournalFault) (old new : DiskState) → reading v old.bytes ≡ Err NoStudy
     → IsNotClaimed v fault (synced old) new → IsNotOpened v fault old new
 refused_so v Memory old new none made = (tt, inr (inl made))
-refused_so v Disk old new none made = (tt, elim (cases_Bool (is_unclaimed old.bytes)) [
-  | inl is ↦ begun_so v old new is (made.0 is)
-  | inr other ↦ inr (inl (made.2 (rw (no_study v old.bytes none, other) refl)))
-])
+refused_so v Disk old new none made = (
+  tt,
+  elim (cases_Bool (is_unclaimed old.bytes)) [
+    | inl is ↦ begun_so v old new is (made.0 is)
+    | inr other ↦ inr (inl (made.2 (rw (no_study v old.bytes none, other) refl)))
+  ],
+)
 refused_so v NoStudy old new none made = (made.0, inr (inl made.1))
 refused_so v Held old new none made = absurd (some_read v old.bytes made.0 none)
 refused_so v fault old new none made = absurd made

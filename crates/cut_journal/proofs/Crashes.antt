@@ -1,17 +1,13 @@
 -- What a crash leaves is what the machine of runs says.
 use Rattle.std.proofs.Common.{◌≡◌, ◌∙◌, ◌++◌, inl, inr, ℕ, Bool, true, false, cond, List, [], ◌∷◌, Ok, Err, Option}
 use Rattle.std.proofs.Common.{Some, None, is_some, unwrap_or, refl, sym, ap, subst, append-nil}
-use Rattle.std.specs.Prelude.{option_map}
-use Rattle.cut_faults.specs.declared.code.FaultCode.{FaultCode}
-use Rattle.cut_faults.specs.declared.code.FaultCode.TheVariants as code
 use Rattle.cut_plan.specs.Values.{Values}
 use Rattle.cut_outcome.specs.Computed.{Computed}
 use Rattle.cut_disks.specs.State.{DiskState}
 use Rattle.cut_ledger.specs.declared.slip.Slip.{Slip}
 use Rattle.cut_ledger.specs.declared.event.Event.TheVariants.{HandIn, HandInDiskFails, CrashReopen}
-use Rattle.cut_ledger.specs.FaultCode.{code_of}
-use Rattle.cut_ledger.specs.Machine.{StudyState, after, opened, slip_of, slips_found, some_slip, refused_code}
-use Rattle.cut_ledger.specs.Machine.{unless_refused, taken, failed}
+use Rattle.cut_ledger.specs.Machine.{StudyState, after, opened, slip_of, slips_found}
+use Rattle.cut_ledger.specs.Machine.{taken, failed}
 use Rattle.cut_ledger.specs.Refusals.{refusal_of}
 use Rattle.cut_journal.specs.declared.fault.JournalFault.TheVariants.{Disk}
 use Rattle.cut_journal.specs.Journal.{JournalValue, kept_slips, ReadsAs}

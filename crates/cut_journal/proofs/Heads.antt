@@ -1,6 +1,6 @@
 -- What the first bytes of a file say, and that they say it where the file is cut after the longest head.
-use Rattle.std.proofs.Common.{◌≡◌, ◌∙◌, ◌≤◌, ◌<◌, inl, inr, ℕ, Bool, true, false, List, Result, Ok, Err, length}
-use Rattle.std.proofs.Common.{take, min, slice_range, refl, sym, ap, subst, arith}
+use Rattle.std.proofs.Common.{◌≡◌, ◌∙◌, ◌≤◌, ◌<◌, inl, inr, ℕ, Bool, true, List, Result, Ok, Err, length}
+use Rattle.std.proofs.Common.{take, min, slice_range, refl, sym, ap, arith}
 use Rattle.std.specs.Bool.{⊤}
 use Rattle.std.specs.Prelude.{IfErr}
 use Rattle.std.proofs.lemmas.Bool.{cases_lt}
@@ -12,10 +12,9 @@ use Rattle.cut_plan.specs.Values.{Values}
 use Rattle.cut_plan.specs.Canonical.{canonical_text}
 use Rattle.cut_disks.specs.State.{DiskState, synced}
 use Rattle.cut_journal.specs.declared.fault.JournalFault.{JournalFault}
-use Rattle.cut_journal.specs.declared.fault.JournalFault.TheVariants.{Memory, Disk, Broken, NoStudy, OtherPlan, Damaged}
-use Rattle.cut_journal.specs.declared.fault.JournalFault.TheVariants.{Held}
+use Rattle.cut_journal.specs.declared.fault.JournalFault.TheVariants.{Memory, Disk, NoStudy, OtherPlan, Damaged}
 use Rattle.cut_journal.specs.Opening.{IsOpeningFaultOf, IsRefused}
-use Rattle.cut_journal.specs.Reading.{is_study, has_header, says_plan, has_magic, text_length, can_have_header}
+use Rattle.cut_journal.specs.Reading.{is_study, has_header, text_length, can_have_header}
 use Rattle.cut_journal.specs.Reading.{reading, slips_reading}
 use Rattle.cut_journal.specs.Unread.{IsUnreadable}
 use Rattle.cut_journal.specs.declared.slips.Slips.{Slips}

@@ -1,6 +1,6 @@
 -- What the writes of a new study leave, whatever crash may come.
-use Rattle.std.proofs.Common.{◌≡◌, ◌∙◌, ◌≤◌, ◌<◌, ◌+◌, ◌-◌, ◌++◌, ◌==◌, ◌&&◌, ◌⊎◌, inl, inr, ℕ, Bool, false, List, []}
-use Rattle.std.proofs.Common.{◌∷◌, Result, Ok, length, take, drop, get_or, nat_lt, slice_index, refl, sym, ap, subst}
+use Rattle.std.proofs.Common.{◌≡◌, ◌∙◌, ◌≤◌, ◌<◌, ◌+◌, ◌-◌, ◌++◌, ◌==◌, ◌⊎◌, inl, inr, ℕ, false, List, []}
+use Rattle.std.proofs.Common.{◌∷◌, Result, Ok, length, take, drop, get_or, slice_index, refl, sym, ap, subst}
 use Rattle.std.proofs.Common.{arith, append_assoc, length-append}
 use Rattle.std.specs.Bool.{⊤}
 use Rattle.std.proofs.lemmas.Bool.Decides.{nat_tests}

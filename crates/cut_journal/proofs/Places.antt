@@ -146,5 +146,8 @@ then_none s (Err fault) is = is
 pub never_none : (v : Values) (more number : ℕ) (rest : List ℕ) → slips_in v more number rest ≡ Err NoStudy → ⊥
 never_none v zero number rest is = cc
 never_none v (suc more) number rest is =
-    grind (arith, then_none,
-    never_none v more (number + 1) (drop (slip_length (version_of v.failing)) rest))
+    grind (
+      arith,
+      then_none,
+      never_none v more (number + 1) (drop (slip_length (version_of v.failing)) rest),
+    )

@@ -1,11 +1,11 @@
 -- The bytes of a slip say the slip.
 use Rattle.std.proofs.Common.{◌≡◌, ◌∙◌, ◌<◌, ◌+◌, ◌*◌, ◌^◌, ◌++◌, ℕ, zero, suc, true, List, [], ◌∷◌}
-use Rattle.std.proofs.Common.{length, take, drop, get_or, refl, sym, ap, arith, append_assoc, length-append}
+use Rattle.std.proofs.Common.{length, take, drop, get_or, refl, sym, ap, arith, length-append}
 use Rattle.std.specs.List.{flat_map}
 use Rattle.std.specs.Int.{w64, to_be_bytes}
 use Rattle.std.proofs.lemmas.Slice.Eq.{bytes_eq-Decides}
 use Rattle.std.proofs.lemmas.List.{take_at, drop_at}
-use Rattle.std.proofs.Math.Seq.{drop-drop, take-append-add}
+use Rattle.std.proofs.Math.Seq.{take-append-add}
 use Rattle.sha2.proofs.Facts256.{length-sha256}
 use Rattle.sha2.specs.Sha256.{sha256}
 use Rattle.cut_fields.specs.declared.version.Version.{Version}

@@ -1,5 +1,4 @@
-use Rattle.std.proofs.Common.{◌∙◌, refl, arith}
-use Rattle.cut_disks.specs.Log.{on}
+use Rattle.std.proofs.Common.{arith}
 use Rattle.cut_journal.proofs.Gates.{gate_next, gate_far}
 use Rattle.cut_journal.proofs.Readings.{next_broken}
 use Rattle.cut_journal.proofs.slips.next_slip.Goals as goal

@@ -1,5 +1,4 @@
-use Rattle.std.proofs.Common.{arith, ◌∙◌, ap, sym}
-use Rattle.cut_journal.specs.Reading.{reading}
+use Rattle.std.proofs.Common.{arith, sym}
 use Rattle.cut_journal.proofs.Heads.{head_fine, head_unreadable}
 use Rattle.cut_journal.proofs.Unread.{begins_at, begins_unread}
 use Rattle.cut_journal.proofs.kept_slips.KeptSlips.of.Goals as goal
