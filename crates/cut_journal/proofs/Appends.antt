@@ -39,15 +39,9 @@ pub torn_rest : (at stop : ℕ) (bytes torn : List ℕ) → IsTorn at stop bytes
     ≡ drop stop bytes
 torn_rest at stop bytes torn is within =
     let n : ℕ = length bytes - stop in
-    let long = length-drop stop bytes in
-    let other = length-drop stop torn in
     let alike : take n (drop stop torn) ≡ take n (drop stop bytes) =
-    alike_at n (drop stop torn) (drop stop bytes) (omega (arith, other, is.no_shorter)) (omega (arith, long))
-    (λ i below. get_or-drop stop torn i 0 ∙ is.same (stop + i) (omega arith)
-    (let outside : covers (stop + i) (record { start = at; stop = stop }) ≡ false = grind (arith, nat_tests) in outside)
-    ∙ sym (get_or-drop stop bytes i 0)) in
-    sym (take_all n (drop stop torn) (omega (arith, other, is.no_longer))) ∙ alike
-    ∙ take_all n (drop stop bytes) (omega (arith, long))
+    grind (arith, nat_tests, alike_at n (drop stop torn) (drop stop bytes), length-drop, get_or-drop) in
+    grind (arith, alike, take_all n (drop stop torn), take_all n (drop stop bytes), length-drop)
 
 -- ---- what is overwritten
 
@@ -280,25 +274,24 @@ failed_sound v n slip old new long left =
     grind (arith, kept_same v n slip old new long left.0)
 
 -- the slip was kept
-pub slip_kept : {D E : Type 0} (log : D → DiskLog) (number : ℕ) (slip : Slip) (old : JournalValue D) (disk : D)
-    → old.doubtful ≡ None → Knows (log old.disk) (IsFileOf old.plan old.count old.doubtful)
-    → Goes (λ n. n) (KeepsSlip {E = E} (Ok tt) old.plan old.count slip) (log old.disk) (log disk)
-    → Appends log (Ok number) slip old (record old { disk = disk; count = old.count + 1 })
-    × Knows (log disk) (IsFileOf old.plan (old.count + 1) old.doubtful)
-slip_kept log number slip old disk none sound goes =
-    let parts = λ (known : IsKnown (log old.disk)). (let keeps = goes.state known in
-    added old.plan old.count slip (on (log old.disk)) (on (log disk))
-    (subst (λ (o : Option Slip). IsFileOf old.plan old.count o (on (log old.disk))) none (sound known)) keeps.kept
-    keeps.durable) in (
+pub slip_kept : {D E : Type 0} (log : D → DiskLog) (number : ℕ) (slip : Slip) (old new : D) (v : Values) (n : ℕ)
+    (doubtful : Option Slip) → doubtful ≡ None → Knows (log old) (IsFileOf v n doubtful)
+    → Goes (λ n. n) (KeepsSlip {E = E} (Ok tt) v n slip) (log old) (log new)
+    → Appends log (Ok number) slip (record { disk = old; plan = v; count = n; doubtful = doubtful })
+    (record { disk = new; plan = v; count = n + 1; doubtful = doubtful }) × Knows (log new) (IsFileOf v (n + 1) doubtful)
+slip_kept log number slip old new v n doubtful none sound goes =
+    let parts = λ (known : IsKnown (log old)). (let keeps = goes.state known in
+    added v n slip (on (log old)) (on (log new))
+    (subst (λ (o : Option Slip). IsFileOf v n o (on (log old))) none (sound known)) keeps.kept keeps.durable) in (
       record {
         known = goes.known;
         state = λ known. (let keeps = goes.state known in record {
           moments = rw none keeps.moments;
           kept = (parts known).1;
           file = keeps.file;
-          acknowledged = rw (parts known).1 (settled_images (λ (image : List ℕ). reading old.plan image
-              ≡ Ok (kept_slips old.plan old.count (on (log old.disk)) ++ slip ∷ [])) (on (log disk)).stable
-              (on (log disk)).bytes keeps.durable keeps.kept);
+          acknowledged = rw (parts known).1 (settled_images (λ (image : List ℕ). reading v image
+              ≡ Ok (kept_slips v n (on (log old)) ++ slip ∷ [])) (on (log new)).stable (on (log new)).bytes keeps.durable
+              keeps.kept);
         });
         faults = goes.faults;
       },
@@ -306,22 +299,22 @@ slip_kept log number slip old disk none sound goes =
     )
 
 -- it is not known whether it was
-pub slip_doubted : {D E : Type 0} (log : D → DiskLog) (fault : E) (slip : Slip) (old : JournalValue D) (disk : D)
-    → old.doubtful ≡ None → Knows (log old.disk) (IsFileOf old.plan old.count old.doubtful)
-    → Goes one_more (KeepsSlip {E = E} (Err fault) old.plan old.count slip) (log old.disk) (log disk)
-    → Appends log (Err Disk) slip old (record old { disk = disk; doubtful = Some slip })
-    × Knows (log disk) (IsFileOf old.plan old.count (Some slip))
-slip_doubted log fault slip old disk none sound goes = (
+pub slip_doubted : {D E : Type 0} (log : D → DiskLog) (fault : E) (slip : Slip) (old new : D) (v : Values) (n : ℕ)
+    (doubtful : Option Slip) → doubtful ≡ None → Knows (log old) (IsFileOf v n doubtful)
+    → Goes one_more (KeepsSlip {E = E} (Err fault) v n slip) (log old) (log new)
+    → Appends log (Err Disk) slip (record { disk = old; plan = v; count = n; doubtful = doubtful })
+    (record { disk = new; plan = v; count = n; doubtful = Some slip }) × Knows (log new) (IsFileOf v n (Some slip))
+slip_doubted log fault slip old new v n doubtful none sound goes = (
   record {
     known = goes.known;
     state = λ known. (let keeps = goes.state known in record {
       moments = rw none keeps.moments;
-      kept = kept_same old.plan old.count slip (on (log old.disk)) (on (log disk)) (sound known).counted keeps.left.0;
+      kept = kept_same v n slip (on (log old)) (on (log new)) (sound known).counted keeps.left.0;
       file = tt;
       acknowledged = tt;
     });
     faults = goes.faults;
   },
-  λ known. (let before = sym goes.known ∙ known in failed_sound old.plan old.count slip (on (log old.disk))
-      (on (log disk)) (sound before).counted (goes.state before).left),
+  λ known. (let before = sym goes.known ∙ known in
+      failed_sound v n slip (on (log old)) (on (log new)) (sound before).counted (goes.state before).left),
 )

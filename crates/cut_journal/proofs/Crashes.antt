@@ -86,27 +86,23 @@ pub follows : {D : Type 0} → AppendsFollow D
 follows (Ok number) r old new before now s of fine broken left kept =
     let none : old.doubtful ≡ None = none_of old.doubtful (λ some. absurd (cc (broken.1 some))) in
     let sound : s.broken ≡ false = of.broken ∙ ap is_some none in
-    let goes : IsJournalOf new.plan new.count new.doubtful now (taken s r) = record {
+    rw (after_taking s r sound fine) (record {
       plan = of.plan ∙ sym left.0;
       journal = of.journal;
       kept = ap (λ (b : Bool). cond b (s.kept ++ slip_of r ∷ []) s.kept) of.journal
           ∙ ap (λ (l : List Slip). l ++ slip_of r ∷ []) of.kept ∙ sym kept;
       doubt = of.doubt ∙ none ∙ sym left.2;
       broken = sound ∙ ap is_some (sym left.2);
-    } in
-    subst (λ (x : StudyState). IsJournalOf new.plan new.count new.doubtful now x) (sym (after_taking s r sound fine))
-    goes
+    })
 follows (Err Disk) r old new before now s of fine broken left kept =
     let none : old.doubtful ≡ None = none_of old.doubtful (λ some. absurd (cc (broken.1 some))) in
-    let goes : IsJournalOf new.plan new.count new.doubtful now (failed s r) = record {
+    rw (after_failing s r (of.broken ∙ ap is_some none) fine) (record {
       plan = of.plan ∙ sym left.0;
       journal = of.journal;
       kept = of.kept ∙ sym kept;
       doubt = sym left.2;
       broken = ap is_some (sym left.2);
-    } in
-    subst (λ (x : StudyState). IsJournalOf new.plan new.count new.doubtful now x)
-    (sym (after_failing s r (of.broken ∙ ap is_some none) fine)) goes
+    })
 follows (Err fault) r old new before now s of fine broken left kept = unchanged old new before now s of left kept
 
 pub opening_follows : OpeningsFollow

@@ -92,10 +92,4 @@ slip_made v s n sum_length numbers digest zeros size short is right rest =
     let sum : length digest ≡ 32 = ap (λ (l : List ℕ). length l) right
     ∙ length-sha256 (header_digest v ++ number_bytes (version_of v.failing) s) in
     let both : length (numbers ++ digest) ≡ n + 32 = length-append numbers digest ∙ omega (arith, long, sum) in
-    ap (λ (k : ℕ). take (slip_length (version_of v.failing)) (put_mid n k (numbers ++ zeros) digest)) short
-    ∙ ap (take (slip_length (version_of v.failing))) (layered n numbers zeros digest long)
-    ∙ ap (λ (k : ℕ). take k ((numbers ++ digest) ++ drop 32 zeros))
-    (let e : slip_length (version_of v.failing) ≡ length (numbers ++ digest) + 1 = omega (arith, size, both) in e)
-    ∙ take-append-add (numbers ++ digest) (drop 32 zeros) 1
-    ∙ ap (λ (l : List ℕ). (numbers ++ digest) ++ l) rest ∙ ap (λ (l : List ℕ). (l ++ digest) ++ closed_gate ∷ []) is
-    ∙ ap (λ (l : List ℕ). (number_bytes (version_of v.failing) s ++ l) ++ closed_gate ∷ []) right
+    grind (arith, layered n numbers zeros digest long, take-append-add (numbers ++ digest) (drop 32 zeros) 1)

@@ -25,48 +25,24 @@ invariant_of-self g c = (
     c.slip_length.ensures.value,
   ),
   omega (arith, c.in-Ok.ensures.bound, c.slip_length.ensures.value),
-  (slip_kept g.D.Disk.log 0 c.args.slip
-      (record {
-        disk = c.self.inside.disk;
-        plan = c.self.inside.study;
-        count = c.self.inside.gate.number;
-        doubtful = c.self.inside.doubtful;
-      }) c.keep_slip.new.disk (none_of c.self.inside.doubtful (search rules))
-      c.self.invariant.2 c.in-Ok.ensures.keeps).1,
+  (slip_kept g.D.Disk.log 0 c.args.slip _ _ _ _ _ (none_of c.self.inside.doubtful (search rules)) c.self.invariant.2
+      c.in-Ok.ensures.keeps).1,
 )
 
 pub invariant_of-self-in-Err : goal.invariant_of-self-in-Err
 invariant_of-self-in-Err g c = (
   c.self.invariant.0,
   c.self.invariant.1,
-  (slip_doubted g.D.Disk.log c.in-Err.field-0 c.args.slip
-      (record {
-        disk = c.self.inside.disk;
-        plan = c.self.inside.study;
-        count = c.self.inside.gate.number;
-        doubtful = c.self.inside.doubtful;
-      }) c.keep_slip.new.disk (none_of c.self.inside.doubtful (search rules))
+  (slip_doubted g.D.Disk.log _ c.args.slip _ _ _ _ _ (none_of c.self.inside.doubtful (search rules))
       c.self.invariant.2 c.in-Err.ensures.keeps).1,
 )
 
 pub returns-in-Ok-clause-appends : goal.returns-in-Ok-clause-appends
 returns-in-Ok-clause-appends g c = rw (← c.self.view_is)
-    (slip_kept g.D.Disk.log _ c.args.slip
-    (record {
-      disk = c.self.inside.disk;
-      plan = c.self.inside.study;
-      count = c.self.inside.gate.number;
-      doubtful = c.self.inside.doubtful;
-    }) c.keep_slip.new.disk (none_of c.self.inside.doubtful (search rules))
+    (slip_kept g.D.Disk.log _ c.args.slip _ _ _ _ _ (none_of c.self.inside.doubtful (search rules))
     c.self.invariant.2 c.in-Ok.ensures.keeps).0
 
 pub returns-in-Err-clause-appends : goal.returns-in-Err-clause-appends
 returns-in-Err-clause-appends g c = rw (← c.self.view_is)
-    (slip_doubted g.D.Disk.log c.in-Err.field-0 c.args.slip
-    (record {
-      disk = c.self.inside.disk;
-      plan = c.self.inside.study;
-      count = c.self.inside.gate.number;
-      doubtful = c.self.inside.doubtful;
-    }) c.keep_slip.new.disk (none_of c.self.inside.doubtful (search rules))
+    (slip_doubted g.D.Disk.log _ c.args.slip _ _ _ _ _ (none_of c.self.inside.doubtful (search rules))
     c.self.invariant.2 c.in-Err.ensures.keeps).0
