@@ -54,11 +54,9 @@ in_append : (v : Values) (ks : List Slip) (doubtful : Option Slip) (s : StudySta
     → s.broken ≡ is_some doubtful → refusal_of s.ledger r ≡ None → (bytes : List ℕ)
     → ReadsAs v ks (Some (unwrap_or doubtful (slip_of r))) bytes
     → IsResumed v (after s (HandInDiskFails r)) bytes
-in_append v ks None s r plan journal kept doubt broken fine bytes reads =
-    subst (λ (x : StudyState). IsResumed v x bytes) (sym (after_failing s r broken fine))
+in_append v ks None s r plan journal kept doubt broken fine bytes reads = rw (after_failing s r broken fine)
     (resumed v (failed s r) ks (Some (slip_of r)) bytes plan journal kept refl reads)
-in_append v ks (Some slip) s r plan journal kept doubt broken fine bytes reads =
-    subst (λ (x : StudyState). IsResumed v x bytes) (sym (after_broken s r broken))
+in_append v ks (Some slip) s r plan journal kept doubt broken fine bytes reads = rw (after_broken s r broken)
     (resumed v s ks (Some slip) bytes plan journal kept doubt reads)
 
 pub in_appends : CrashesInAppends

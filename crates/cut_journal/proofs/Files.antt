@@ -1,6 +1,6 @@
 -- The bytes of a study's file, as the writes of a journal leave them.
 use Rattle.std.proofs.Common.{◌≡◌, ◌∙◌, ◌≤◌, ◌+◌, ◌++◌, ℕ, List, [], ◌∷◌, Result, Ok, Some, None, length, take, refl, sym, ap}
-use Rattle.std.proofs.Common.{subst, arith, append-nil, append_assoc, length-append}
+use Rattle.std.proofs.Common.{zero-add, subst, arith, append-nil, append_assoc, length-append}
 use Rattle.std.specs.Bool.{⊤}
 use Rattle.std.specs.Io.{StartsWith}
 use Rattle.std.specs.List.{flat_map}
@@ -68,13 +68,7 @@ long_slips v k (s ∷ slips) =
 
 long_file : (v : Values) (slips : List Slip) → length (prefix_of v ++ gated_slips v slips) ≡ gate_place v (length slips)
 long_file v slips =
-    let all = length-append (prefix_of v) (gated_slips v slips) in
-    let prefix = long_prefix v in
-    let first = gate_first v in
-    let rest = long_slips v 0 slips in
-    let size : length (prefix_of v ++ gated_slips v slips)
-    ≡ gate_place v (0 + length slips) = omega (arith, all, prefix, first, rest) in
-    size ∙ ap (λ n. gate_place v n) (let e : 0 + length slips ≡ length slips = omega arith in e)
+    grind (arith, length-append, long_prefix, gate_first, long_slips v 0 slips, zero-add)
 
 regrouped : (prefix slips body rest : List ℕ) → ((prefix ++ slips) ++ open_gate ∷ [])
     ++ ((body ++ closed_gate ∷ []) ++ rest) ≡ ((prefix ++ (slips ++ (open_gate ∷ body))) ++ closed_gate ∷ []) ++ rest

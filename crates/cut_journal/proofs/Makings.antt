@@ -51,10 +51,6 @@ rest_step result put old new stay durable some closed is =
 
 -- ---- the gate of the study is opened
 
-later : (first : ℕ) (bytes others : List ℕ) → 0 < length others → drop 1 others ≡ bytes → (c : ℕ) × (others ≡ c ∷ bytes)
-later first bytes [] some is = absurd (omega arith)
-later first bytes (c ∷ others) some is = (c, ap (λ (l : List ℕ). c ∷ l) is)
-
 pub whole_prefix : (v : Values) (rest : List ℕ) → open_gate ∷ rest_of v ++ rest ≡ prefix_of v ++ (closed_gate ∷ rest)
 unfolding rest_of prefix_of
 whole_prefix v rest = ap (λ (l : List ℕ). open_gate ∷ l)
@@ -63,43 +59,34 @@ whole_prefix v rest = ap (λ (l : List ℕ). open_gate ∷ l)
 pub new_read : (v : Values) (rest : List ℕ) → length (canonical_text v) ≤ 65536
     → reading v (open_gate ∷ rest_of v ++ rest) ≡ Ok []
 new_read v rest short =
-    let bytes : List ℕ = open_gate ∷ rest_of v ++ rest in
-    let is : bytes ≡ prefix_of v ++ (closed_gate ∷ rest) = whole_prefix v rest in
-    let long = long_prefix v in
-    let size : length (prefix_of v) ≡ gate_place v 0 = omega (arith, long, gate_first v) in
-    let there : gate_place v 0 < length bytes = omega
-    (arith, ap (λ (l : List ℕ). length l) is, length-append (prefix_of v) (closed_gate ∷ rest), size) in
-    let prefix : take (gate_place v 0) bytes ≡ prefix_of v = ap (take (gate_place v 0)) is
-    ∙ take_at (prefix_of v) (closed_gate ∷ rest) (gate_place v 0) size in
-    let shut : get_or bytes (gate_place v 0) 0 ≡ 0 =
-    ap (λ (l : List ℕ). get_or l (gate_place v 0) 0) is
-    ∙ get_or-append_right (prefix_of v) (closed_gate ∷ rest) (gate_place v 0) (gate_place v 0) 0 size (omega arith)
-    ∙ rw (let e : gate_place v 0 - gate_place v 0 ≡ 0 = omega arith in e) refl in
-    holds_reads v bytes 0 (record {
-      prefix = prefix_begins v bytes short there prefix;
+    let bytes : List ℕ = prefix_of v ++ (closed_gate ∷ rest) in
+    let size : length (prefix_of v) ≡ gate_place v 0 = omega (arith, long_prefix v, gate_first v) in
+    let there : gate_place v 0 < length bytes = omega (arith, length-append (prefix_of v) (closed_gate ∷ rest), size) in
+    ap (reading v) (whole_prefix v rest) ∙ holds_reads v bytes 0 (record {
+      prefix = prefix_begins v bytes short there (take_at (prefix_of v) (closed_gate ∷ rest) (gate_place v 0) size);
       whole = λ i low. absurd (omega (arith, low));
-      closed = ap (λ (b : ℕ). b == open_gate) shut;
+      closed = grind (arith, get_or-append_right (prefix_of v) (closed_gate ∷ rest) (gate_place v 0) (gate_place v 0) 0
+          size);
     })
 
-new_or_none : (v : Values) (c : ℕ) (rest : List ℕ) → length (canonical_text v) ≤ 65536
-    → IsNewStudy v (c ∷ rest_of v ++ rest)
-new_or_none v c rest short = grind (arith, new_read, none_read)
+-- whatever its first byte is
+new_or_none : (v : Values) (bytes rest : List ℕ) → length (canonical_text v) ≤ 65536 → 0 < length bytes
+    → drop 1 bytes ≡ rest_of v ++ rest → IsNewStudy v bytes
+new_or_none v [] rest short some is = absurd (omega arith)
+new_or_none v (c ∷ bytes) rest short some is =
+    subst (λ (l : List ℕ). IsNewStudy v (c ∷ l)) (sym is) (grind (arith, new_read, none_read))
 
 pub open_step : {E : Type 0} (result : Result ⊤ E) (v : Values) (old new : DiskState) → length (canonical_text v)
     ≤ 65536 → WritesStayInSpan → old.stable ≡ settled old.bytes → BeginsAs v old.bytes
     → WritesThrough result 0 (open_gate ∷ []) old new → Through (IsNewStudy v) result 0 (open_gate ∷ []) old new
 open_step result v old new short stay durable begins is =
-    let first : ℕ = begins.0 in
     let rest : List ℕ = begins.1.0 in
-    let all : old.bytes ≡ first ∷ rest_of v ++ rest = begins.1.1.0 in
+    let after : drop 1 old.bytes ≡ rest_of v ++ rest = ap (drop 1) begins.1.1.0 in
+    let some : 0 < length old.bytes = omega (arith, ap (λ (l : List ℕ). length l) begins.1.1.0) in
     through_is (IsNewStudy v) result 0 (open_gate ∷ []) old new stay durable
-    (subst (IsNewStudy v) (sym all) (new_or_none v first rest short))
-    (λ image torn. (let size = ap (λ (l : List ℕ). length l) all in
-    let some : 0 < length image = omega (arith, torn.no_shorter, size) in
-    let same : drop 1 image ≡ rest_of v ++ rest = torn_rest 0 1 old.bytes image torn (omega (arith, size))
-    ∙ ap (drop 1) all in
-    let parts = later first (rest_of v ++ rest) image some same in
-    let holds : IsNewStudy v image = subst (IsNewStudy v) (sym parts.1) (new_or_none v parts.0 rest short) in holds)) is
+    (new_or_none v old.bytes rest short some after)
+    (λ image torn. new_or_none v image rest short (omega (arith, torn.no_shorter, some))
+    (torn_rest 0 1 old.bytes image torn (omega (arith, some)) ∙ after)) is
 
 pub open_reads : (v : Values) (bytes : List ℕ) → length (canonical_text v) ≤ 65536 → BeginsAs v bytes
     → reading v (overwritten bytes 0 (open_gate ∷ [])) ≡ Ok []

@@ -116,27 +116,17 @@ then_is : (s : Slip) (r : Result (List Slip) JournalFault) (slips : List Slip) �
 then_is s (Ok rest) slips is = (rest, (refl, cc))
 then_is s (Err fault) slips is = absurd (cc)
 
-more_placed : (v : Values) (bytes : List ℕ) (more i : ℕ) (slips : List Slip) (shown whole : Bool) → is_open v bytes i
-    ≡ shown → is_whole v bytes i ≡ whole → slips_at v bytes (suc more) i ≡ Ok slips
+more_placed : (v : Values) (bytes : List ℕ) (more i : ℕ) (slips : List Slip) → slips_at v bytes (suc more) i ≡ Ok slips
     → ((rest : List Slip) → slips_at v bytes more (i + 1) ≡ Ok rest → ArePlaced v bytes (i + 1) rest)
     → ArePlaced v bytes i slips
-more_placed v bytes more i slips false whole shut says is then =
-    let none : Ok slips ≡ Ok [] = sym is ∙ closed_at v bytes more i shut in
-    let same : slips ≡ [] = cc none in
-    subst (ArePlaced v bytes i) (sym same) (none_placed v bytes i shut)
-more_placed v bytes more i slips true false opens broken is then =
-    absurd (cc (sym is ∙ damaged_at v bytes more i opens broken))
-more_placed v bytes more i slips true true opens says is then =
-    let p = then_is (slip_at v bytes i) (slips_at v bytes more (i + 1)) slips
-    (sym (whole_at v bytes more i opens says) ∙ is) in
-    subst (ArePlaced v bytes i) (sym p.1.1) (one_placed v bytes i p.0 opens says (then p.0 p.1.0))
+more_placed v bytes more i slips is then =
+    grind (arith, closed_at, damaged_at, whole_at, then_is, none_placed, one_placed)
 
 pub are_placed : (v : Values) (bytes : List ℕ) (more i : ℕ) (slips : List Slip) → slips_at v bytes more i ≡ Ok slips
     → ArePlaced v bytes i slips
 are_placed v bytes zero i slips is = absurd (cc)
 are_placed v bytes (suc more) i slips is =
-    more_placed v bytes more i slips (is_open v bytes i) (is_whole v bytes i) refl refl is
-    (λ rest after. are_placed v bytes more (i + 1) rest after)
+    more_placed v bytes more i slips is (λ rest after. are_placed v bytes more (i + 1) rest after)
 
 -- the slips are never read as no study
 then_none : (s : Slip) (r : Result (List Slip) JournalFault) → then_slips s r ≡ Err NoStudy → r ≡ Err NoStudy

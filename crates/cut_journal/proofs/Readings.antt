@@ -50,12 +50,6 @@ pub whole_from : (v : Values) (bytes : List ℕ) (i : ℕ) → gate_place v (i +
 whole_from v bytes i long is =
     grind arith
 
-pub next_broken : (v : Values) (bytes body : List ℕ) (i : ℕ) (found : Option Slip) → found
-    ≡ cond (is_slip v body) (Some (slip_in (version_of v.failing) body)) None → body ≡ body_at v bytes i
-    → found ≡ None → is_whole v bytes i ≡ false
-next_broken v bytes body i found reported read none =
-    grind arith
-
 -- one whole slip more
 pub one_more_whole : (v : Values) (bytes : List ℕ) (n : ℕ) → AreWhole v bytes n → is_open v bytes n ≡ true
     → is_whole v bytes n ≡ true → AreWhole v bytes (n + 1)
@@ -158,11 +152,7 @@ before_same v n bytes others prefix whole alike long =
     let first = gate_first_least v n in (
       of_plan_alike v bytes others (alike_prefix (gate_place v n) (gate_place v 0) others bytes alike first)
           (omega (arith, long, first)) prefix,
-      λ i low. (let same = slip_same v n i bytes others alike low in (
-        same.1 ∙ (whole i low).0,
-        whole_from v others i (omega (arith, same.0, long))
-            (ap (is_slip v) same.2 ∙ (whole_is v bytes i (whole i low).1).1),
-      )),
+      λ i low. (let same = slip_same v n i bytes others alike low in let w = whole i low in grind arith),
       map_alike (slip_at v others) (slip_at v bytes) n
           (λ i low. ap (slip_in (version_of v.failing)) (slip_same v n i bytes others alike low).2),
     )

@@ -1,6 +1,5 @@
 use Rattle.std.proofs.Common.{arith}
 use Rattle.cut_journal.proofs.Gates.{gate_next, gate_far}
-use Rattle.cut_journal.proofs.Readings.{next_broken}
 use Rattle.cut_journal.proofs.slips.next_slip.Goals as goal
 
 pub overflow_add-result : goal.overflow_add-result
@@ -16,4 +15,4 @@ pub returns-in-Some-clause-reads : goal.returns-in-Some-clause-reads
 returns-in-Some-clause-reads g c = grind (arith, gate_next)
 
 pub returns-in-None-clause-reads : goal.returns-in-None-clause-reads
-returns-in-None-clause-reads g c = grind (arith, gate_next, next_broken)
+returns-in-None-clause-reads g c = grind (arith, gate_next)

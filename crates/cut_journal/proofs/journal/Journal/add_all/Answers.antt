@@ -33,29 +33,17 @@ returns-in_err-add_slip g c =
     let p = err_from_is_err_and c.from_residual.result c.from_residual.ensures.1 in
     let slips : List Slip = c.args.slips.now in
     let n : ℕ = c.loop-slip.slip-index in
-    let s : Slip = get_or slips n no_slip in
-    let old = c.args.self.now in
-    let mid = c.loop-slip.self in
-    let new = c.add_slip.new.self in
-    let one : EndsAdding {T = ⊤} g.D.Disk.log (Err c.in_err-add_slip.field-0.0) (s ∷ []) mid new =
-    c.in_err-add_slip.ensures in
-    subst (λ (x : Result ⊤ StoreFault). EndsAdding {T = ⊤} g.D.Disk.log x slips old new)
+    subst (λ (x : Result ⊤ StoreFault). EndsAdding {T = ⊤} g.D.Disk.log x slips c.args.self.now c.add_slip.new.self)
     (sym (p.1 ∙ ap (λ (e : StoreFault). Err e) p.2))
-    (adding_stops ⊤ ⊤ g.D.Disk.log c.in_err-add_slip.field-0.0 (take n slips) (s ∷ []) (drop (n + 1) slips) slips old mid
-    new
+    (adding_stops ⊤ ⊤ g.D.Disk.log c.in_err-add_slip.field-0.0 (take n slips) (get_or slips n no_slip ∷ [])
+    (drop (n + 1) slips) slips c.args.self.now c.loop-slip.self c.add_slip.new.self
     (sym (take-append-drop (n + 1) slips)
     ∙ ap (λ (l : List Slip). l ++ drop (n + 1) slips) (take_more slips n no_slip (search rules)))
-    c.loop-slip.invariant.added one)
+    c.loop-slip.invariant.added c.in_err-add_slip.ensures)
 
 pub loop-slip-preserved : goal.loop-slip-preserved
-loop-slip-preserved g c =
-    let slips : List Slip = c.args.slips.now in
-    let n : ℕ = c.loop-slip.slip-index in
-    let s : Slip = get_or slips n no_slip in
-    let mid = c.loop-slip.self in
-    let new = c.add_slip.new.self in
-    let one : EndsAdding {T = ⊤} g.D.Disk.log (Ok tt) (s ∷ []) mid new = c.in_ok-add_slip.ensures in
-    record {
-      added = all_added {T = ⊤} g.D.Disk.log tt (take n slips) (s ∷ []) (take (n + 1) slips) c.args.self.now mid new
-          (sym (take_more slips n no_slip (search rules))) c.loop-slip.invariant.added one;
-    }
+loop-slip-preserved g c = record {
+  added = all_added {T = ⊤} g.D.Disk.log tt _ _ _ c.args.self.now c.loop-slip.self c.add_slip.new.self
+      (sym (take_more c.args.slips.now c.loop-slip.slip-index no_slip (search rules))) c.loop-slip.invariant.added
+      c.in_ok-add_slip.ensures;
+}
