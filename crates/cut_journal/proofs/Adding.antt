@@ -56,13 +56,12 @@ pub added_then : {D : Type 0} (log : D → DiskLog) (xs ys : List Slip) (failed 
     → Adds log (xs ++ ys) failed old new
 added_then log xs ys failed old mid new before after = record {
   plan = after.plan ∙ before.plan;
-  count = (let one = before.count in let two = after.count in let sum = length-append xs ys in
-      omega (arith, one, two, sum));
+  count = omega (arith, before.count, after.count, length-append xs ys);
   doubtful = after.doubtful ∙ ap (λ (o : Option Slip). doubtful_after failed o) before.doubtful;
   taken = taken_in xs ys old.doubtful mid.doubtful before.taken before.doubtful after.taken;
   whole = λ some. sym before.doubtful ∙ after.whole some;
-  untouched = λ none unfailed. (let sum = length-append xs ys in
-      after.untouched (omega (arith, none, sum)) unfailed ∙ before.untouched (omega (arith, none, sum)) refl);
+  untouched = λ none unfailed. after.untouched (omega (arith, none, length-append xs ys)) unfailed
+      ∙ before.untouched (omega (arith, none, length-append xs ys)) refl;
   disk = record {
     known = after.disk.known ∙ before.disk.known;
     state = λ known. (let first = before.disk.state known in
@@ -83,14 +82,6 @@ added_then log xs ys failed old mid new before after = record {
 
 module _ {D : Type 0} (log : D → DiskLog) (slip : Slip) (old new : JournalValue D)
     (sound : Knows (log old.disk) (IsFileOf old.plan old.count old.doubtful)) where
-  step : old.doubtful ≡ None
-      → Throughout (on (log old.disk)) (on (log new.disk))
-      (ReadsAs old.plan (kept_slips old.plan old.count (on (log old.disk))) (Some (unwrap_or old.doubtful slip)))
-      → Throughout (on (log old.disk)) (on (log new.disk))
-      (ReadsAs old.plan (kept_slips old.plan old.count (on (log old.disk))) (Some slip))
-  step none moments = subst (λ (o : Option Slip). Throughout (on (log old.disk)) (on (log new.disk))
-      (ReadsAs old.plan (kept_slips old.plan old.count (on (log old.disk))) (Some (unwrap_or o slip)))) none moments
-
   pub slip_added : (n : ℕ) → (IsErrOf {T = ℕ} (Ok n) journal.Broken ↔ IsSome old.doubtful)
       → LeavesAppend (Ok n) slip old new → Appends log (Ok n) slip old new
       → EndsAdding {T = ⊤} log (Ok tt) (slip ∷ []) old new
@@ -112,7 +103,7 @@ module _ {D : Type 0} (log : D → DiskLog) (slip : Slip) (old new : JournalValu
                 moments = (
                   on (log new.disk),
                   (
-                    step none one.moments,
+                    rw none at one.moments,
                     stays (ReadsAs old.plan (kept_slips old.plan old.count (on (log old.disk)) ++ slip ∷ []) new.doubtful)
                         (on (log new.disk)) (on (log new.disk)) refl
                         (λ image of. inl (one.acknowledged image of ∙ ap (λ (l : List Slip). Ok l) one.kept)),
@@ -137,7 +128,7 @@ module _ {D : Type 0} (log : D → DiskLog) (slip : Slip) (old new : JournalValu
         (
           record {
             plan = left.0;
-            count = (let same = left.1 in omega (arith, same));
+            count = omega (arith, left.1);
             doubtful = left.2;
             taken = λ some. none;
             whole = λ some. none;
@@ -145,9 +136,7 @@ module _ {D : Type 0} (log : D → DiskLog) (slip : Slip) (old new : JournalValu
             disk = record {
               known = appends.known;
               state = λ known. (let one = appends.state known in record {
-                moments = subst (λ (o : Option Slip). Throughout (on (log old.disk)) (on (log new.disk))
-                    (ReadsAs old.plan (kept_slips old.plan old.count (on (log old.disk))) o)) (sym left.2)
-                    (step none one.moments);
+                moments = rw left.2 (rw none at one.moments);
                 kept = one.kept ∙ sym (append-nil (kept_slips old.plan old.count (on (log old.disk))));
               });
               faults = appends.faults;
@@ -191,8 +180,7 @@ adding_stops T U log store.Broken xs ys rest all old mid new are before (added, 
       (
         added_then log xs added failed old mid new before ends.0,
         (
-          (let size = ap (λ (l : List Slip). length l) are in let one = length-append (xs ++ ys) rest in
-              let two = length-append xs ys in let low = ends.1.0 in omega (arith, size, one, two, low)),
+          omega (arith, ap (λ (l : List Slip). length l) are, length-append (xs ++ ys) rest, length-append xs ys, ends.1.0),
           some,
           (ap (λ (l : List Slip). l ++ added) none ∙ ends.1.2.0, ends.1.2.1),
         ),

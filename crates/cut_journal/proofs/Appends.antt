@@ -58,11 +58,21 @@ over_at : (bytes : List ℕ) (b at : ℕ) → at ≤ length bytes → get_or (ov
 over_at bytes b at low =
     grind (arith, append_assoc, get_or-append_right, length-take)
 
+over_room : (bytes put : List ℕ) (at : ℕ) → at ≤ length bytes → at ≤ length (overwritten bytes (at + 1) put)
+over_room bytes put at low =
+    grind (arith, length-append, length-take)
+
 -- ---- the journal that is ready for a slip
 
 pub sound_holds : (v : Values) (n : ℕ) (d : DiskState) → IsFileOf v n None d → Holds v d.bytes n
     × (kept_slips v n d ≡ first_slips v d.bytes n) × (d.stable ≡ settled d.bytes)
 sound_holds v n d sound = grind (arith, reads_holds v d.bytes (kept_slips v n d))
+
+-- there is room for both writes
+pub gate_before : (v : Values) (n place : ℕ) (d : DiskState) → place ≡ gate_place v n → IsFileOf v n None d → place + 1
+    ≤ length d.bytes
+gate_before v n place d here sound =
+    grind (arith, sound_holds v n d sound, gate_there v d.bytes n)
 
 -- ---- the first write
 
@@ -119,29 +129,33 @@ written_after v n bytes tail slip is =
     )
 
 -- the gate is the only place that may differ
-second_torn : (v : Values) (n : ℕ) (bytes torn : List ℕ) (slip : Slip) → Holds v bytes n → HasNumbers slip
-    → HoldsAllTotals (version_of v.failing) slip.totals
-    → IsTorn (gate_place v n) (gate_place v n + 1) (overwritten bytes (gate_place v n + 1) (put_of v slip)) torn
-    → (is_open v torn n ≡ true → reading v torn ≡ Ok (first_slips v bytes n ++ slip ∷ []))
-    × (is_open v torn n ≡ false → reading v torn ≡ Ok (first_slips v bytes n))
-second_torn v n bytes torn slip holds fits reports is =
+second_torn : (v : Values) (n : ℕ) (old : DiskState) (torn : List ℕ) (slip : Slip) → IsFileOf v n None old
+    → HasNumbers slip → HoldsAllTotals (version_of v.failing) slip.totals
+    → IsTorn (gate_place v n) (gate_place v n + 1) (overwritten old.bytes (gate_place v n + 1) (put_of v slip)) torn
+    → (is_open v torn n ≡ true → reading v torn ≡ Ok (kept_slips v n old ++ slip ∷ []))
+    × (is_open v torn n ≡ false → reading v torn ≡ Ok (kept_slips v n old))
+second_torn v n old torn slip sound fits reports is =
     let g : ℕ = gate_place v n in
     let put : List ℕ = put_of v slip in
-    let mid : List ℕ = overwritten bytes (g + 1) put in
-    let there = gate_there v bytes n holds.prefix holds.whole in
-    let rest : drop (g + 1) mid ≡ put ++ drop (g + 1 + length put) bytes = over_rest bytes put (g + 1)
+    let mid : List ℕ = overwritten old.bytes (g + 1) put in
+    let ready = sound_holds v n old sound in
+    let whole = ready.0.whole in
+    let there = gate_there v old.bytes n ready.0.prefix whole in
+    let rest : drop (g + 1) mid ≡ put ++ drop (g + 1 + length put) old.bytes = over_rest old.bytes put (g + 1)
     (omega (arith, there)) in
-    let there_mid = written_after v n mid (drop (g + 1 + length put) bytes) slip rest in
+    let there_mid = written_after v n mid (drop (g + 1 + length put) old.bytes) slip rest in
     let low : g + 1 ≤ length mid = omega (arith, there_mid.0, gate_next v n) in
-    let prefix : take g torn ≡ take g bytes =
+    let prefix : take g torn ≡ take g old.bytes =
     torn_prefix g (g + 1) g mid torn is (omega arith) (omega (arith, low))
-    ∙ alike_prefix (g + 1) g mid bytes (over_prefix bytes put (g + 1) (omega (arith, there))) (omega arith) in
-    let after = written_after v n torn (drop (g + 1 + length put) bytes) slip
+    ∙ alike_prefix (g + 1) g mid old.bytes (over_prefix old.bytes put (g + 1) (omega (arith, there))) (omega arith) in
+    let after = written_after v n torn (drop (g + 1 + length put) old.bytes) slip
     (torn_rest g (g + 1) mid torn is low ∙ rest) in (
-      λ opens. opened_read v n bytes torn slip holds.prefix holds.whole prefix after.0 opens
+      λ opens. opened_read v n old.bytes torn slip ready.0.prefix whole prefix after.0 opens
           (ap (is_slip v) after.1 ∙ slip_whole v slip fits)
-          (ap (slip_in (version_of v.failing)) after.1 ∙ slip_back v slip fits reports) after.2,
-      λ closes. closed_read v n bytes torn holds.prefix holds.whole prefix (omega (arith, after.0, gate_next v n)) closes,
+          (ap (slip_in (version_of v.failing)) after.1 ∙ slip_back v slip fits reports) after.2
+          ∙ ap (λ (l : List Slip). Ok (l ++ slip ∷ [])) (sym ready.1),
+      λ closes. closed_read v n old.bytes torn ready.0.prefix whole prefix (omega (arith, after.0, gate_next v n)) closes
+          ∙ ap (λ (l : List Slip). Ok l) (sym ready.1),
     )
 
 -- the second write, and its sync
@@ -153,24 +167,13 @@ pub second_step : {E : Type 0} (result : Result ⊤ E) (v : Values) (n : ℕ) (s
     × (is_ok result ≡ true → reading v new.bytes ≡ Ok (kept_slips v n old ++ slip ∷ []))
 second_step result v n slip old mid new stay sound fits reports wrote durable is =
     let g : ℕ = gate_place v n in
-    let ready = sound_holds v n old sound in
-    let slips : List Slip = kept_slips v n old in
-    let P : List ℕ → Type 0 = ReadsAs v slips (Some slip) in
-    let there = gate_there v old.bytes n ready.0.prefix ready.0.whole in
-    let put : List ℕ = put_of v slip in
-    let torn = λ (image : List ℕ) (t : IsTorn g (g + 1) mid.bytes image). second_torn v n old.bytes image slip ready.0
-    fits reports (subst (λ (b : List ℕ). IsTorn g (g + 1) b image) wrote t) in
+    let P : List ℕ → Type 0 = ReadsAs v (kept_slips v n old) (Some slip) in
+    let torn = λ (image : List ℕ) (t : IsTorn g (g + 1) mid.bytes image).
+    second_torn v n old image slip sound fits reports (subst (λ (b : List ℕ). IsTorn g (g + 1) b image) wrote t) in
     let reads = λ (image : List ℕ) (t : IsTorn g (g + 1) mid.bytes image).
     (let holds : P image = elim (cases_Bool (is_open v image n)) [
-      | inl opens ↦ inr (
-        slip,
-        (
-          refl,
-          (torn image t).0 opens
-              ∙ ap (λ (l : List Slip). Ok (l ++ slip ∷ [])) (sym ready.1),
-        ),
-      )
-      | inr closes ↦ inl ((torn image t).1 closes ∙ ap (λ (l : List Slip). Ok l) (sym ready.1))
+      | inl opens ↦ inr (slip, (refl, (torn image t).0 opens))
+      | inr closes ↦ inl ((torn image t).1 closes)
     ] in holds) in
     let before : P mid.bytes = reads mid.bytes (record
     { no_shorter = omega arith; no_longer = omega arith; same = λ i low outside. refl }) in
@@ -178,16 +181,11 @@ second_step result v n slip old mid new stay sound fits reports wrote durable is
     before reads is in (
       step,
       λ ok. (let bytes : new.bytes ≡ overwritten mid.bytes g (open_gate ∷ []) = step.bytes ok in
-          let rest : drop (g + 1) mid.bytes ≡ put ++ drop (g + 1 + length put) old.bytes = ap (drop (g + 1)) wrote
-          ∙ over_rest old.bytes put (g + 1) (omega (arith, there)) in
-          let after = written_after v n mid.bytes (drop (g + 1 + length put) old.bytes) slip rest in
-          let first : get_or new.bytes g 0 ≡ open_gate =
-          ap (λ (l : List ℕ). get_or l g 0) bytes
-          ∙ over_at mid.bytes open_gate g (omega (arith, after.0, gate_next v n)) in
-          let t : IsTorn g (g + 1) mid.bytes new.bytes = subst (λ (b : List ℕ). IsTorn g (g + 1) mid.bytes b)
-          (sym bytes) (stay mid.bytes (open_gate ∷ []) g) in
-          (torn new.bytes t).0 ((Decides-eqb (get_or new.bytes g 0) open_gate).1 first)
-          ∙ ap (λ (l : List Slip). Ok (l ++ slip ∷ [])) (sym ready.1)),
+          let low : g ≤ length mid.bytes = rw wrote (over_room old.bytes (put_of v slip) g
+          (omega (arith, gate_before v n g old refl sound))) in
+          let first : get_or new.bytes g 0 ≡ open_gate = rw bytes (over_at mid.bytes open_gate g low) in
+          let t : IsTorn g (g + 1) mid.bytes new.bytes = rw bytes (stay mid.bytes (open_gate ∷ []) g) in
+          (torn new.bytes t).0 ((Decides-eqb (get_or new.bytes g 0) open_gate).1 first)),
     )
 
 -- ---- at the place of the gate
@@ -198,12 +196,6 @@ pub first_at : {E : Type 0} (result : Result ⊤ E) (v : Values) (n place : ℕ)
     → Through (ReadsAs v (kept_slips v n old) (Some slip)) result (place + 1) put old new
 first_at result v n place slip put old new here stay sound is =
     grind (arith, first_step result v n slip put old new stay sound)
-
--- there is room for both writes
-pub gate_before : (v : Values) (n place : ℕ) (d : DiskState) → place ≡ gate_place v n → IsFileOf v n None d → place + 1
-    ≤ length d.bytes
-gate_before v n place d here sound =
-    grind (arith, sound_holds v n d sound, gate_there v d.bytes n)
 
 -- ---- a journal that was opened
 
@@ -254,12 +246,9 @@ pub added : (v : Values) (n : ℕ) (slip : Slip) (old new : DiskState) → IsFil
     ≡ Ok (kept_slips v n old ++ slip ∷ []) → new.stable ≡ settled new.bytes
     → IsFileOf v (n + 1) None new × (kept_slips v (n + 1) new ≡ kept_slips v n old ++ slip ∷ [])
 added v n slip old new sound reads durable =
-    let long : n + 1 ≡ length (kept_slips v n old ++ slip ∷ []) =
-    (let c = sound.counted in let a = length-append (kept_slips v n old) (slip ∷ []) in omega (arith, c, a)) in (
-      opened_sound v (n + 1) (kept_slips v n old ++ slip ∷ []) new reads long durable,
-      kept_are v (n + 1)
-          (kept_slips v n old ++ slip ∷ []) new reads long,
-    )
+    let kept : List Slip = kept_slips v n old ++ slip ∷ [] in
+    let long : n + 1 ≡ length kept = omega (arith, sound.counted, length-append (kept_slips v n old) (slip ∷ [])) in
+    (opened_sound v (n + 1) kept new reads long durable, kept_are v (n + 1) kept new reads long)
 
 -- the slips that count are the same, whether the doubtful one is there or not
 pub kept_same : (v : Values) (n : ℕ) (slip : Slip) (old new : DiskState) → length (kept_slips v n old) ≡ n

@@ -120,12 +120,7 @@ reads_holds v bytes slips is =
     let prefix = read_plan v bytes slips is in
     let slips_there = are_placed v bytes (length bytes) 0 slips
     (sym (reading_at v bytes) ∙ sym (plan_read v bytes prefix) ∙ is) in
-    let holds : Holds v bytes (length slips) = record {
-      prefix = prefix;
-      whole = λ i low. slips_there.whole i (omega arith) (omega (arith, low));
-      closed = ap (is_open v bytes) (sym (zero-add (length slips))) ∙ slips_there.closed;
-    } in
-    (holds, slips_there.are)
+    grind (arith, zero-add, prefix, slips_there)
 
 -- ---- bytes that begin alike
 
