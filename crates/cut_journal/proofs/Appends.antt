@@ -58,10 +58,6 @@ over_at : (bytes : List ℕ) (b at : ℕ) → at ≤ length bytes → get_or (ov
 over_at bytes b at low =
     grind (arith, append_assoc, get_or-append_right, length-take)
 
-over_room : (bytes put : List ℕ) (at : ℕ) → at ≤ length bytes → at ≤ length (overwritten bytes (at + 1) put)
-over_room bytes put at low =
-    grind (arith, length-append, length-take)
-
 -- ---- the journal that is ready for a slip
 
 pub sound_holds : (v : Values) (n : ℕ) (d : DiskState) → IsFileOf v n None d → Holds v d.bytes n
@@ -129,12 +125,12 @@ written_after v n bytes tail slip is =
     )
 
 -- the gate is the only place that may differ
-second_torn : (v : Values) (n : ℕ) (old : DiskState) (torn : List ℕ) (slip : Slip) → IsFileOf v n None old
-    → HasNumbers slip → HoldsAllTotals (version_of v.failing) slip.totals
+second_torn : (v : Values) (n : ℕ) (old : DiskState) (torn : List ℕ) (slip : Slip) → WritesStayInSpan
+    → IsFileOf v n None old → HasNumbers slip → HoldsAllTotals (version_of v.failing) slip.totals
     → IsTorn (gate_place v n) (gate_place v n + 1) (overwritten old.bytes (gate_place v n + 1) (put_of v slip)) torn
     → (is_open v torn n ≡ true → reading v torn ≡ Ok (kept_slips v n old ++ slip ∷ []))
     × (is_open v torn n ≡ false → reading v torn ≡ Ok (kept_slips v n old))
-second_torn v n old torn slip sound fits reports is =
+second_torn v n old torn slip stay sound fits reports is =
     let g : ℕ = gate_place v n in
     let put : List ℕ = put_of v slip in
     let mid : List ℕ = overwritten old.bytes (g + 1) put in
@@ -143,8 +139,7 @@ second_torn v n old torn slip sound fits reports is =
     let there = gate_there v old.bytes n ready.0.prefix whole in
     let rest : drop (g + 1) mid ≡ put ++ drop (g + 1 + length put) old.bytes = over_rest old.bytes put (g + 1)
     (omega (arith, there)) in
-    let there_mid = written_after v n mid (drop (g + 1 + length put) old.bytes) slip rest in
-    let low : g + 1 ≤ length mid = omega (arith, there_mid.0, gate_next v n) in
+    let low : g + 1 ≤ length mid = omega (arith, there, (stay old.bytes put (g + 1)).no_shorter) in
     let prefix : take g torn ≡ take g old.bytes =
     torn_prefix g (g + 1) g mid torn is (omega arith) (omega (arith, low))
     ∙ alike_prefix (g + 1) g mid old.bytes (over_prefix old.bytes put (g + 1) (omega (arith, there))) (omega arith) in
@@ -169,7 +164,7 @@ second_step result v n slip old mid new stay sound fits reports wrote durable is
     let g : ℕ = gate_place v n in
     let P : List ℕ → Type 0 = ReadsAs v (kept_slips v n old) (Some slip) in
     let torn = λ (image : List ℕ) (t : IsTorn g (g + 1) mid.bytes image).
-    second_torn v n old image slip sound fits reports (subst (λ (b : List ℕ). IsTorn g (g + 1) b image) wrote t) in
+    second_torn v n old image slip stay sound fits reports (subst (λ (b : List ℕ). IsTorn g (g + 1) b image) wrote t) in
     let reads = λ (image : List ℕ) (t : IsTorn g (g + 1) mid.bytes image).
     (let holds : P image = elim (cases_Bool (is_open v image n)) [
       | inl opens ↦ inr (slip, (refl, (torn image t).0 opens))
@@ -181,8 +176,8 @@ second_step result v n slip old mid new stay sound fits reports wrote durable is
     before reads is in (
       step,
       λ ok. (let bytes : new.bytes ≡ overwritten mid.bytes g (open_gate ∷ []) = step.bytes ok in
-          let low : g ≤ length mid.bytes = rw wrote (over_room old.bytes (put_of v slip) g
-          (omega (arith, gate_before v n g old refl sound))) in
+          let low : g ≤ length mid.bytes = rw wrote (omega (arith, gate_before v n g old refl sound,
+          (stay old.bytes (put_of v slip) (g + 1)).no_shorter)) in
           let first : get_or new.bytes g 0 ≡ open_gate = rw bytes (over_at mid.bytes open_gate g low) in
           let t : IsTorn g (g + 1) mid.bytes new.bytes = rw bytes (stay mid.bytes (open_gate ∷ []) g) in
           (torn new.bytes t).0 ((Decides-eqb (get_or new.bytes g 0) open_gate).1 first)),
@@ -207,14 +202,7 @@ kept_are v n slips d reads long = ap (λ (r : Result (List Slip) JournalFault). 
 pub opened_sound : (v : Values) (n : ℕ) (slips : List Slip) (d : DiskState) → reading v d.bytes ≡ Ok slips → n
     ≡ length slips → d.stable ≡ settled d.bytes → IsFileOf v n None d
 opened_sound v n slips d reads long durable =
-    let same : kept_slips v n d ≡ slips = kept_are v n slips d reads long in
-    let says : ReadsAs v (kept_slips v n d) None d.bytes = inl (reads ∙ ap (λ (l : List Slip). Ok l) (sym same)) in
-    record {
-      counted = ap (λ (l : List Slip). length l) same ∙ sym long;
-      bytes = says;
-      images = settled_images (ReadsAs v (kept_slips v n d) None) d.stable d.bytes durable says;
-      durable = λ none. durable;
-    }
+    grind (arith, kept_are v n slips d reads long, settled_images (ReadsAs v slips None) d.stable d.bytes durable)
 
 -- a doubtful slip, or another one in its place
 pub reads_more : (v : Values) (slips : List Slip) (doubtful : Option Slip) (slip : Slip) (bytes : List ℕ)

@@ -19,10 +19,10 @@ gates_at : (version : Version) (text i : ℕ) → (text + 45 + slip_length versi
 gates_at One text i = (omega arith, omega arith, omega arith)
 gates_at Two text i = (omega arith, omega arith, omega arith)
 
-rises_at : (version : Version) (text i k : ℕ) → i < k → text + 45 + slip_length version * i + slip_length version ≤ text
-    + 45 + slip_length version * k
-rises_at One text i k low = omega (arith, low)
-rises_at Two text i k low = omega (arith, low)
+grows_at : (version : Version) (text i k : ℕ) → i ≤ k → text + 45 + slip_length version * i ≤ text + 45
+    + slip_length version * k
+grows_at One text i k low = omega arith
+grows_at Two text i k low = omega arith
 
 -- the first gate
 pub gate_first : (v : Values) → gate_place v 0 ≡ length (canonical_text v) + 45
@@ -39,7 +39,7 @@ pub gate_far : (v : Values) (i : ℕ) → i + 45 ≤ gate_place v i
 unfolding gate_place
 gate_far v i = (gates_at (version_of v.failing) (length (canonical_text v)) i).2
 
--- a slip before a gate ends there at the latest
-pub gate_rises : (v : Values) (i k : ℕ) → i < k → gate_place v i + slip_length (version_of v.failing) ≤ gate_place v k
+-- a later gate
+pub gate_grows : (v : Values) (i k : ℕ) → i ≤ k → gate_place v i ≤ gate_place v k
 unfolding gate_place
-gate_rises v i k low = rises_at (version_of v.failing) (length (canonical_text v)) i k low
+gate_grows v i k low = grows_at (version_of v.failing) (length (canonical_text v)) i k low

@@ -19,7 +19,7 @@ use Rattle.cut_journal.specs.Reading.{is_study, says_plan, is_magic, text_length
 use Rattle.cut_journal.specs.Reading.{has_header, is_slip, slip_in, slips_reading, then_slips, reading}
 use Rattle.cut_journal.specs.inside.Steps.{AreRead, AreWhole, Finds, IsOfPlan, IsSlipFault}
 use Rattle.cut_journal.proofs.Places.{slip_at, slips_at, closed_at, damaged_at, read_on, are_placed, never_none}
-use Rattle.cut_journal.proofs.Gates.{gate_first, gate_next, gate_far, gate_rises, nine_numbers}
+use Rattle.cut_journal.proofs.Gates.{gate_first, gate_next, gate_far, gate_grows, nine_numbers}
 use Rattle.cut_journal.proofs.Headers.{of_plan_alike, says_length, has_can, header_room}
 use Rattle.cut_journal.proofs.Counts.{map_alike, alike_place, alike_prefix, alike_part}
 use Rattle.cut_journal.specs.inside.Places.{body_at, first_slips, gate_place, is_open, is_whole}
@@ -128,23 +128,19 @@ slip_same : (v : Values) (n i : ℕ) (bytes others : List ℕ) → take (gate_pl
     → i < n → (gate_place v (i + 1) ≤ gate_place v n) × (is_open v others i ≡ is_open v bytes i)
     × (body_at v others i ≡ body_at v bytes i)
 slip_same v n i bytes others alike low =
-    let end : gate_place v (i + 1) ≤ gate_place v n = omega (arith, gate_next v i, gate_rises v i n low) in (
+    let end : gate_place v (i + 1) ≤ gate_place v n = gate_grows v (i + 1) n (omega arith) in (
       end,
       ap (λ (b : ℕ). b == open_gate) (alike_place (gate_place v n) (gate_place v i) others bytes alike
           (omega (arith, gate_next v i, end, nine_numbers (version_of v.failing)))),
       alike_part (gate_place v n) (gate_place v i + 1) (gate_place v (i + 1)) others bytes alike end,
     )
 
-gate_first_least : (v : Values) (n : ℕ) → gate_place v 0 ≤ gate_place v n
-gate_first_least v zero = omega arith
-gate_first_least v (suc n) = omega (arith, gate_rises v 0 (suc n) (omega arith))
-
 -- the slips before a place are the same
 pub before_same : (v : Values) (n : ℕ) (bytes others : List ℕ) → IsOfPlan v bytes → AreWhole v bytes n
     → take (gate_place v n) others ≡ take (gate_place v n) bytes → gate_place v n < length others
     → IsOfPlan v others × (AreWhole v others n) × (first_slips v others n ≡ first_slips v bytes n)
 before_same v n bytes others prefix whole alike long =
-    let first = gate_first_least v n in (
+    let first = gate_grows v 0 n (omega arith) in (
       of_plan_alike v bytes others (alike_prefix (gate_place v n) (gate_place v 0) others bytes alike first)
           (omega (arith, long, first)) prefix,
       λ i low. (let same = slip_same v n i bytes others alike low in let w = whole i low in grind arith),
@@ -170,9 +166,7 @@ pub opened_read : (v : Values) (n : ℕ) (bytes others : List ℕ) (slip : Slip)
 opened_read v n bytes others slip prefix whole alike long opens is says shut =
     let same = before_same v n bytes others prefix whole alike (omega (arith, long, gate_next v n)) in
     let more = one_more_whole v others n same.1 opens (whole_from v others n long is) in
-    holds_reads v others (n + 1) (record { prefix = same.0; whole = more; closed = shut })
-    ∙ ap (λ (l : List Slip). Ok l) (map-range_with_len_more (slip_at v others) 0 n n (zero-add n)
-    ∙ ap (λ (l : List Slip). l ++ slip_at v others n ∷ []) same.2 ∙ ap (λ (x : Slip). first_slips v bytes n ++ x ∷ []) says)
+    grind (arith, same, more, holds_reads v others (n + 1), map-range_with_len_more (slip_at v others) 0 n n)
 
 -- ---- headers
 
