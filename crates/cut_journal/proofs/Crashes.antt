@@ -1,5 +1,5 @@
 -- What a crash leaves is what the machine of runs says.
-use Rattle.std.proofs.Common.{◌≡◌, ◌∙◌, ◌++◌, inl, inr, ℕ, Bool, true, false, cond, List, [], ◌∷◌, Ok, Err, Option}
+use Rattle.std.proofs.Common.{arith, ◌≡◌, ◌∙◌, ◌++◌, inl, inr, ℕ, Bool, true, false, cond, List, [], ◌∷◌, Ok, Err, Option}
 use Rattle.std.proofs.Common.{Some, None, is_some, unwrap_or, refl, sym, ap, subst, append-nil}
 use Rattle.cut_plan.specs.Values.{Values}
 use Rattle.cut_outcome.specs.Computed.{Computed}
@@ -72,45 +72,22 @@ unchanged : {D : Type 0} (old new : JournalValue D) (before now : DiskState) (s 
     → IsJournalOf old.plan old.count old.doubtful before s → new ≡ old
     → kept_slips new.plan new.count now ≡ kept_slips old.plan old.count before
     → IsJournalOf new.plan new.count new.doubtful now s
-unchanged {D} old new before now s of same kept = record {
-  plan = of.plan ∙ ap (λ (l : JournalValue D). l.plan) (sym same);
-  journal = of.journal;
-  kept = of.kept ∙ sym kept;
-  doubt = of.doubt ∙ ap (λ (l : JournalValue D). l.doubtful) (sym same);
-  broken = of.broken ∙ ap (λ (l : JournalValue D). is_some l.doubtful) (sym same);
-}
+unchanged old new before now s of same kept =
+    grind arith
 
 pub follows : {D : Type 0} → AppendsFollow D
 follows (Ok number) r old new before now s of fine broken left kept =
     let none : old.doubtful ≡ None = none_of old.doubtful (λ some. absurd (cc (broken.1 some))) in
     let sound : s.broken ≡ false = of.broken ∙ ap is_some none in
-    rw (after_taking s r sound fine) (record {
-      plan = of.plan ∙ sym left.0;
-      journal = of.journal;
-      kept = ap (λ (b : Bool). cond b (s.kept ++ slip_of r ∷ []) s.kept) of.journal
-          ∙ ap (λ (l : List Slip). l ++ slip_of r ∷ []) of.kept ∙ sym kept;
-      doubt = of.doubt ∙ none ∙ sym left.2;
-      broken = sound ∙ ap is_some (sym left.2);
-    })
+    rw (after_taking s r sound fine) (grind arith)
 follows (Err Disk) r old new before now s of fine broken left kept =
     let none : old.doubtful ≡ None = none_of old.doubtful (λ some. absurd (cc (broken.1 some))) in
-    rw (after_failing s r (of.broken ∙ ap is_some none) fine) (record {
-      plan = of.plan ∙ sym left.0;
-      journal = of.journal;
-      kept = of.kept ∙ sym kept;
-      doubt = sym left.2;
-      broken = ap is_some (sym left.2);
-    })
+    rw (after_failing s r (of.broken ∙ ap is_some none) fine) (grind arith)
 follows (Err fault) r old new before now s of fine broken left kept = unchanged old new before now s of left kept
 
 pub opening_follows : OpeningsFollow
-opening_follows v count slips d size reads long = record {
-  plan = refl;
-  journal = refl;
-  kept = sym (kept_are v count slips d reads long);
-  doubt = refl;
-  broken = refl;
-}
+opening_follows v count slips d size reads long =
+    grind (arith, kept_are v count slips d reads long)
 
 pub others_follow : OtherEventsFollow
 others_follow v count doubtful d s (HandIn r) of leaves = absurd (leaves)

@@ -30,12 +30,8 @@ begins bytes prefix rest is = ap (take (length prefix)) is ∙ take_at prefix re
 
 new_file : (v : Values) (bytes : List ℕ) → BeginsAs v bytes
     → StartsWith (overwritten bytes 0 (open_gate ∷ [])) (file_of v [])
-new_file v bytes begun =
-    let rest : List ℕ = begun.1.0 in
-    begins (overwritten bytes 0 (open_gate ∷ [])) (file_of v []) rest
-    (ap (λ (l : List ℕ). overwritten l 0 (open_gate ∷ [])) begun.1.1.0 ∙ whole_prefix v rest
-    ∙ ap (λ (l : List ℕ). l ++ (closed_gate ∷ rest)) (sym (append-nil (prefix_of v)))
-    ∙ sym (append_assoc (prefix_of v ++ []) (closed_gate ∷ []) rest))
+new_file v bytes begun = begins (overwritten bytes 0 (open_gate ∷ [])) (file_of v []) begun.1.0
+    (rw begun.1.1.0 (grind (arith, whole_prefix v begun.1.0, append-nil, append_assoc)))
 
 pub new_opened : {E : Type 0} (result : Result ⊤ E) (v : Values) (old new : DiskState) → length (canonical_text v)
     ≤ 65536 → WritesStayInSpan → HasBegun v old → WritesThrough result 0 (open_gate ∷ []) old new

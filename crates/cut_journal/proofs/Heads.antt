@@ -97,10 +97,10 @@ cut_alike v m bytes is short = elim (cases_lt 65581 (length bytes)) [
   | inr all ↦ ap (head_reading v) (take_all m bytes (omega (arith, is, all)))
 ]
 
-pub head_cut : (v : Values) (bytes : List ℕ) → length (canonical_text v) ≤ 65536
-    → head_reading v (head_in bytes) ≡ head_reading v bytes
+head_cut : (v : Values) (bytes head : List ℕ) → length (canonical_text v) ≤ 65536 → head ≡ head_in bytes
+    → head_reading v head ≡ head_reading v bytes
 unfolding head_in
-head_cut v bytes short = cut_alike v 65582 bytes refl short
+head_cut v bytes head short read = ap (head_reading v) read ∙ cut_alike v 65582 bytes refl short
 
 -- ---- the head that was read of a disk
 
@@ -125,14 +125,12 @@ pub head_refuses : (v : Values) (old new : DiskState) (head : List ℕ) (fault :
     → length (canonical_text v) ≤ 65536 → new ≡ synced old → head ≡ head_in old.bytes
     → Err fault ≡ head_reading v head → IsRefused v fault old new
 head_refuses v old new head fault short same read is =
-    let refused = head_refused v old.bytes fault (sym (head_cut v old.bytes short) ∙ sym (ap (head_reading v) read)
-    ∙ sym is) in
+    let refused = head_refused v old.bytes fault (sym (head_cut v old.bytes head short read) ∙ sym is) in
     refused_by v old new fault same refused.0 refused.1
 
 pub head_opens : (v : Values) (bytes head : List ℕ) (done : ⊤) → length (canonical_text v) ≤ 65536
     → head ≡ head_in bytes → Ok done ≡ head_reading v head → IsOfPlan v bytes
-head_opens v bytes head done short read is = head_fine v bytes done (sym (head_cut v bytes short)
-    ∙ sym (ap (head_reading v) read) ∙ sym is)
+head_opens v bytes head done short read is = head_fine v bytes done (sym (head_cut v bytes head short read) ∙ sym is)
 
 -- then its slips are those of the study
 pub slips_of_head : (result : Result Slips JournalFault) (v : Values) (old new : DiskState) (head : List ℕ) (done : ⊤)

@@ -96,14 +96,8 @@ open_reads v bytes short begins =
 -- ---- where no journal is made
 
 pub look_failed : (v : Values) (old new : DiskState) → (new ≡ old) ⊎ (new ≡ synced old) → IsNotMade v Disk old new
-look_failed v old new is = (
-  λ none. elim is [
-    | inl same ↦ inl same
-    | inr durable ↦ inr (stays (IsNewStudy v) (synced old) new durable
-        (settled_images (IsNewStudy v) (synced old).stable old.bytes refl (inl none)))
-  ],
-  λ some. is,
-)
+look_failed v old new is =
+    grind (arith, settled_images (IsNewStudy v) (synced old).stable old.bytes refl)
 
 pub write_failed : (v : Values) (old mid new : DiskState) → mid ≡ synced old → is_study old.bytes ≡ false
     → Throughout mid new (IsNewStudy v) → IsNotMade v Disk old new

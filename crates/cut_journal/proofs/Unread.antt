@@ -78,12 +78,10 @@ reads_on k slip size is at step = (
 
 pub reads_none : (k : Inside) → IsAtGate k
     → IsStep (Ok None) k.study (k.gate.number + 1) (drop k.gate.place k.bytes.now) → (unread_of k).slips ≡ Ok []
-reads_none k at shut = opened k (Ok []) at
-    (closed_in k.study (length k.bytes.now - (k.gate.number + 1)) (k.gate.number + 1) (drop k.gate.place k.bytes.now)
-    shut)
+reads_none k at shut =
+    grind (arith, opened k (Ok []) at, closed_in)
 
 pub reads_fault : (k : Inside) (fault : JournalFault) → IsAtGate k
     → IsStep (Err fault) k.study (k.gate.number + 1) (drop k.gate.place k.bytes.now) → (unread_of k).slips ≡ Err fault
-reads_fault k fault at step = opened k (Err fault) at
-    (damaged_in k.study (length k.bytes.now - (k.gate.number + 1)) (k.gate.number + 1) (drop k.gate.place k.bytes.now)
-    step.0 step.1 ∙ ap (λ (f : JournalFault). Err f) (sym step.2))
+reads_fault k fault at step =
+    grind (arith, opened k (Err fault) at, damaged_in)
