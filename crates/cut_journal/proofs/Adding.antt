@@ -21,22 +21,8 @@ use Rattle.cut_journal.proofs.Series.{LeavesDoubt, each_then, none_of, nothing_a
 -- nothing is added
 pub none_added : {D : Type 0} (log : D → DiskLog) (j : JournalValue D)
     → Knows (log j.disk) (IsFileOf j.plan j.count j.doubtful) → Adds log [] None j j
-none_added log j sound = record {
-  plan = refl;
-  count = omega arith;
-  doubtful = refl;
-  taken = λ some. absurd (omega (arith, some));
-  whole = λ some. absurd (cc);
-  untouched = λ none unfailed. refl;
-  disk = record {
-    known = refl;
-    state = λ known. record {
-      moments = nothing_appended j.plan j.count j.doubtful (on (log j.disk)) (sound known);
-      kept = sym (append-nil (kept_slips j.plan j.count (on (log j.disk))));
-    };
-    faults = refl;
-  };
-}
+none_added log j sound =
+    grind (arith, nothing_appended, append-nil)
 
 -- what is left to be said of the doubtful slip
 doubt_left : (ys : List Slip) (failed before after : Option Slip) → (1 ≤ length ys → before ≡ None)
@@ -47,8 +33,8 @@ doubt_left [] None before after taken whole is = inr (refl, is)
 
 taken_in : (xs ys : List Slip) (old mid : Option Slip) → (1 ≤ length xs → old ≡ None) → mid ≡ old
     → (1 ≤ length ys → mid ≡ None) → 1 ≤ length (xs ++ ys) → old ≡ None
-taken_in [] ys old mid before same after some = sym same ∙ after some
-taken_in (x ∷ xs) ys old mid before same after some = before (omega arith)
+taken_in xs ys old mid before same after some =
+    grind (arith, length-append)
 
 -- slips that are added after others
 pub added_then : {D : Type 0} (log : D → DiskLog) (xs ys : List Slip) (failed : Option Slip)

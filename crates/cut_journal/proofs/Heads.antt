@@ -36,8 +36,8 @@ head_refused v bytes fault is =
 
 unreadable_by : (v : Values) (bytes : List ℕ) (fault : JournalFault) → reading v bytes ≡ Err fault
     → IsUnreadable v bytes fault
-unreadable_by v bytes Memory is = tt
-unreadable_by v bytes fault is = is
+unreadable_by v bytes fault is =
+    grind arith
 
 pub head_unreadable : (v : Values) (bytes : List ℕ) (fault : JournalFault) → Err fault ≡ head_reading v bytes
     → IsUnreadable v bytes fault
@@ -114,12 +114,8 @@ head_read size count bytes head whole is read =
 
 refused_by : (v : Values) (old new : DiskState) (fault : JournalFault) → new ≡ synced old
     → reading v old.bytes ≡ Err fault → IsOpeningFaultOf fault → IsRefused v fault old new
-refused_by v old new Memory same is may = (tt, inr same)
-refused_by v old new Disk same is may = (tt, inr same)
-refused_by v old new NoStudy same is may = (is, same)
-refused_by v old new OtherPlan same is may = (is, same)
-refused_by v old new (Damaged number) same is may = (is, same)
-refused_by v old new fault same is may = absurd (may)
+refused_by v old new fault same is may =
+    grind arith
 
 pub head_refuses : (v : Values) (old new : DiskState) (head : List ℕ) (fault : JournalFault)
     → length (canonical_text v) ≤ 65536 → new ≡ synced old → head ≡ head_in old.bytes

@@ -45,9 +45,7 @@ pub rest_step : {E : Type 0} (result : Result ⊤ E) (put : List ℕ) (old new :
     → WritesThrough result 1 put old new → Through IsNone result 1 put old new
 rest_step result put old new stay durable some closed is =
     through_is IsNone result 1 put old new stay durable (closed_none old.bytes closed)
-    (λ image torn. closed_none image (ap (λ (b : ℕ). b == open_gate)
-    (torn.same 0 some (let outside : covers 0 (record { start = 1; stop = 1 + length put })
-    ≡ false = grind (arith, nat_tests) in outside)) ∙ closed)) is
+    (λ image torn. closed_none image (grind (arith, nat_tests, torn.same 0 some))) is
 
 -- ---- the gate of the study is opened
 

@@ -211,8 +211,5 @@ header_judged bytes found n has reported some is =
 pub slips_found : (result : Result Slips JournalFault) (v : Values) (old new : DiskState) → new ≡ synced old
     → reading v old.bytes ≡ slips_reading v new.bytes → IfErr result IsSlipFault → AreRead result v new.bytes
     → Finds result v old new
-slips_found (Ok found) v old new same is faults are = (is ∙ are, same)
-slips_found (Err Memory) v old new same is faults are = (tt, inr same)
-slips_found (Err Disk) v old new same is faults are = (tt, inr same)
-slips_found (Err (Damaged number)) v old new same is faults are = (is ∙ are number refl, same)
-slips_found (Err fault) v old new same is faults are = absurd (faults)
+slips_found result v old new same is faults are =
+    grind arith

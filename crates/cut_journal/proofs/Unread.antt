@@ -56,15 +56,8 @@ moved k size = record k { gate = record { number = k.gate.number + 1; place = k.
 -- the slip after the gate was read
 pub next_at : (k : Inside) (slip : Slip) (size : ℕ) → size ≡ slip_length (version_of k.study.failing) → IsAtGate k
     → IsStep (Ok (Some slip)) k.study (k.gate.number + 1) (drop k.gate.place k.bytes.now) → IsAtGate (moved k size)
-next_at k slip size is at step = record {
-  place = omega (arith, is, at.place, gate_next k.study k.gate.number);
-  within = omega (
-    arith,
-    is,
-    fits k.study (drop k.gate.place k.bytes.now) step.1,
-    length-drop k.gate.place k.bytes.now,
-  );
-}
+next_at k slip size is at step =
+    grind (arith, fits, gate_next, length-drop)
 
 pub reads_on : (k : Inside) (slip : Slip) (size : ℕ) → size ≡ slip_length (version_of k.study.failing) → IsAtGate k
     → IsStep (Ok (Some slip)) k.study (k.gate.number + 1) (drop k.gate.place k.bytes.now)
