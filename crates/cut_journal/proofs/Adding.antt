@@ -27,9 +27,8 @@ none_added log j sound =
 -- what is left to be said of the doubtful slip
 doubt_left : (ys : List Slip) (failed before after : Option Slip) → (1 ≤ length ys → before ≡ None)
     → (IsSome failed → before ≡ None) → after ≡ doubtful_after failed before → LeavesDoubt before after ys
-doubt_left (y ∷ ys) failed before after taken whole is = inl (taken (omega arith))
-doubt_left [] (Some slip) before after taken whole is = inl (whole refl)
-doubt_left [] None before after taken whole is = inr (refl, is)
+doubt_left [] failed before after taken whole is = grind arith
+doubt_left (y ∷ ys) failed before after taken whole is = grind arith
 
 taken_in : (xs ys : List Slip) (old mid : Option Slip) → (1 ≤ length xs → old ≡ None) → mid ≡ old
     → (1 ≤ length ys → mid ≡ None) → 1 ≤ length (xs ++ ys) → old ≡ None

@@ -144,14 +144,10 @@ second_torn v n old torn slip stay sound fits reports is =
     torn_prefix g (g + 1) g mid torn is (omega arith) (omega (arith, low))
     ∙ alike_prefix (g + 1) g mid old.bytes (over_prefix old.bytes put (g + 1) (omega (arith, there))) (omega arith) in
     let after = written_after v n torn (drop (g + 1 + length put) old.bytes) slip
-    (torn_rest g (g + 1) mid torn is low ∙ rest) in (
-      λ opens. opened_read v n old.bytes torn slip ready.0.prefix whole prefix after.0 opens
-          (ap (is_slip v) after.1 ∙ slip_whole v slip fits)
-          (ap (slip_in (version_of v.failing)) after.1 ∙ slip_back v slip fits reports) after.2
-          ∙ ap (λ (l : List Slip). Ok (l ++ slip ∷ [])) (sym ready.1),
-      λ closes. closed_read v n old.bytes torn ready.0.prefix whole prefix (omega (arith, after.0, gate_next v n)) closes
-          ∙ ap (λ (l : List Slip). Ok l) (sym ready.1),
-    )
+    (torn_rest g (g + 1) mid torn is low ∙ rest) in
+    grind (arith, ready, after, opened_read v n old.bytes torn slip ready.0.prefix whole prefix after.0,
+      closed_read v n old.bytes torn ready.0.prefix whole prefix, slip_whole v slip fits, slip_back v slip fits reports,
+      gate_next v n)
 
 -- the second write, and its sync
 pub second_step : {E : Type 0} (result : Result ⊤ E) (v : Values) (n : ℕ) (slip : Slip) (old mid new : DiskState)
@@ -165,11 +161,8 @@ second_step result v n slip old mid new stay sound fits reports wrote durable is
     let P : List ℕ → Type 0 = ReadsAs v (kept_slips v n old) (Some slip) in
     let torn = λ (image : List ℕ) (t : IsTorn g (g + 1) mid.bytes image).
     second_torn v n old image slip stay sound fits reports (subst (λ (b : List ℕ). IsTorn g (g + 1) b image) wrote t) in
-    let reads = λ (image : List ℕ) (t : IsTorn g (g + 1) mid.bytes image).
-    (let holds : P image = elim (cases_Bool (is_open v image n)) [
-      | inl opens ↦ inr (slip, (refl, (torn image t).0 opens))
-      | inr closes ↦ inl ((torn image t).1 closes)
-    ] in holds) in
+    let reads : (image : List ℕ) → IsTorn g (g + 1) mid.bytes image → P image =
+    λ image t. (let either = torn image t in grind (arith, cases_Bool (is_open v image n))) in
     let before : P mid.bytes = reads mid.bytes (record
     { no_shorter = omega arith; no_longer = omega arith; same = λ i low outside. refl }) in
     let step : Through P result g (open_gate ∷ []) mid new = through_is P result g (open_gate ∷ []) mid new stay durable
@@ -207,9 +200,8 @@ opened_sound v n slips d reads long durable =
 -- a doubtful slip, or another one in its place
 pub reads_more : (v : Values) (slips : List Slip) (doubtful : Option Slip) (slip : Slip) (bytes : List ℕ)
     → ReadsAs v slips doubtful bytes → ReadsAs v slips (Some (unwrap_or doubtful slip)) bytes
-reads_more v slips None slip bytes (inl reads) = inl reads
-reads_more v slips None slip bytes (inr other) = absurd (cc (other.1.0))
-reads_more v slips (Some doubtful) slip bytes reads = reads
+reads_more v slips doubtful slip bytes reads =
+    grind arith
 
 -- an append that is refused at once
 pub append_stays : {D : Type 0} (log : D → DiskLog) (fault : JournalFault) (slip : Slip) (j : JournalValue D)
@@ -218,9 +210,7 @@ pub append_stays : {D : Type 0} (log : D → DiskLog) (fault : JournalFault) (sl
 append_stays log fault slip j uncounted sound = record {
   known = refl;
   state = λ known. record {
-    moments = stays (ReadsAs j.plan (kept_slips j.plan j.count (on (log j.disk))) (Some (unwrap_or j.doubtful slip)))
-        (on (log j.disk)) (on (log j.disk)) refl (λ image of. reads_more j.plan
-        (kept_slips j.plan j.count (on (log j.disk))) j.doubtful slip image ((sound known).images image of));
+    moments = grind (arith, sound known);
     kept = refl;
     file = tt;
     acknowledged = tt;
@@ -241,9 +231,8 @@ added v n slip old new sound reads durable =
 -- the slips that count are the same, whether the doubtful one is there or not
 pub kept_same : (v : Values) (n : ℕ) (slip : Slip) (old new : DiskState) → length (kept_slips v n old) ≡ n
     → ReadsAs v (kept_slips v n old) (Some slip) new.bytes → kept_slips v n new ≡ kept_slips v n old
-kept_same v n slip old new long (inl reads) = kept_are v n (kept_slips v n old) new reads (sym long)
-kept_same v n slip old new long (inr (other, both)) =
-    grind (arith, take_at)
+kept_same v n slip old new long reads =
+    grind (arith, kept_are v n (kept_slips v n old) new, take_at)
 
 pub failed_sound : (v : Values) (n : ℕ) (slip : Slip) (old new : DiskState) → length (kept_slips v n old) ≡ n
     → Leave (ReadsAs v (kept_slips v n old) (Some slip)) new → IsFileOf v n (Some slip) new

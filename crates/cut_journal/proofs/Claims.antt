@@ -27,39 +27,18 @@ left_unclaimed v bytes known none =
 
 pub not_claimed : (v : Values) (fault : JournalFault) (old new : DiskState) → is_foreign old.bytes ≡ false
     → IsNotMade v fault old new → IsNotClaimed v fault old new
-not_claimed v Held old new known made =
-    (true_from_ne_false (is_study old.bytes) (λ none. made.0 (none_read v old.bytes none)), made.1)
-not_claimed v Memory old new known made = made
-not_claimed v Disk old new known made = (
-  λ is. made.0 (none_read v old.bytes (unclaimed_none old.bytes is)),
-  λ is. made.1 (some_read v old.bytes is),
-  λ is. absurd (cc),
-)
-not_claimed v fault old new known made = absurd made
+not_claimed v fault old new known made =
+    grind (arith, none_read v old.bytes, some_read v old.bytes, unclaimed_none old.bytes)
 
 -- ---- an opening, where there is no study
 
 no_study : (v : Values) (bytes : List ℕ) → reading v bytes ≡ Err NoStudy → is_study bytes ≡ false
 no_study v bytes none = false_from_ne_true (is_study bytes) (λ is. some_read v bytes is none)
 
-begun_so : (v : Values) (old new : DiskState) → is_unclaimed old.bytes ≡ true → IsBegunFile v (synced old) new
-    → IsOpening v old new
-begun_so v old new is (inl same) = inr (inl same)
-begun_so v old new is (inr begun) = inr (inr (is, begun))
-
 refused_so : (v : Values) (fault : JournalFault) (old new : DiskState) → reading v old.bytes ≡ Err NoStudy
     → IsNotClaimed v fault (synced old) new → IsNotOpened v fault old new
-refused_so v Memory old new none made = (tt, inr (inl made))
-refused_so v Disk old new none made = (
-  tt,
-  elim (cases_Bool (is_unclaimed old.bytes)) [
-    | inl is ↦ begun_so v old new is (made.0 is)
-    | inr other ↦ inr (inl (made.2 (rw (no_study v old.bytes none, other) refl)))
-  ],
-)
-refused_so v NoStudy old new none made = (made.0, inr (inl made.1))
-refused_so v Held old new none made = absurd (some_read v old.bytes made.0 none)
-refused_so v fault old new none made = absurd made
+refused_so v fault old new none made =
+    grind (arith, some_read v old.bytes, no_study v old.bytes none)
 
 -- an opening that was refused, by its two steps
 pub not_opened : (v : Values) (first fault : JournalFault) (old mid new : DiskLog) → first ≡ NoStudy

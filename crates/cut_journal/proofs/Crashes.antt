@@ -68,30 +68,14 @@ in_appends v count doubtful old new s r of fine moments =
 
 -- ---- the journal of a run stays so
 
-unchanged : {D : Type 0} (old new : JournalValue D) (before now : DiskState) (s : StudyState)
-    → IsJournalOf old.plan old.count old.doubtful before s → new ≡ old
-    → kept_slips new.plan new.count now ≡ kept_slips old.plan old.count before
-    → IsJournalOf new.plan new.count new.doubtful now s
-unchanged old new before now s of same kept =
-    grind arith
-
 pub follows : {D : Type 0} → AppendsFollow D
-follows (Ok number) r old new before now s of fine broken left kept =
-    let none : old.doubtful ≡ None = none_of old.doubtful (λ some. absurd (cc (broken.1 some))) in
-    let sound : s.broken ≡ false = of.broken ∙ ap is_some none in
-    rw (after_taking s r sound fine) (grind arith)
-follows (Err Disk) r old new before now s of fine broken left kept =
-    let none : old.doubtful ≡ None = none_of old.doubtful (λ some. absurd (cc (broken.1 some))) in
-    rw (after_failing s r (of.broken ∙ ap is_some none) fine) (grind arith)
-follows (Err fault) r old new before now s of fine broken left kept = unchanged old new before now s of left kept
+follows result r old new before now s of fine broken left kept =
+    grind (arith, none_of, after_taking s r, after_failing s r)
 
 pub opening_follows : OpeningsFollow
 opening_follows v count slips d size reads long =
     grind (arith, kept_are v count slips d reads long)
 
 pub others_follow : OtherEventsFollow
-others_follow v count doubtful d s (HandIn r) of leaves = absurd (leaves)
-others_follow v count doubtful d s (HandInDiskFails r) of leaves = absurd (leaves)
-others_follow v count doubtful d s (CrashReopen keep size) of leaves = absurd (leaves)
-others_follow v count doubtful d s event of leaves = record
-    { plan = of.plan; journal = of.journal; kept = of.kept; doubt = of.doubt; broken = of.broken }
+others_follow v count doubtful d s event of leaves =
+    grind arith

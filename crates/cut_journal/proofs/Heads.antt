@@ -23,7 +23,7 @@ use Rattle.cut_journal.specs.inside.Places.{gate_place}
 use Rattle.cut_journal.proofs.Counts.{alike_place, alike_prefix}
 use Rattle.cut_journal.proofs.Gates.{gate_first}
 use Rattle.cut_journal.proofs.Headers.{has_can, header_alike, says_alike, magic_alike}
-use Rattle.cut_journal.proofs.Readings.{first_there, plan_read, slips_found}
+use Rattle.cut_journal.proofs.Readings.{first_there, plan_read}
 
 -- ---- what bytes are read as, by their first ones
 
@@ -34,14 +34,10 @@ unfolding reading
 head_refused v bytes fault is =
     grind arith
 
-unreadable_by : (v : Values) (bytes : List ℕ) (fault : JournalFault) → reading v bytes ≡ Err fault
-    → IsUnreadable v bytes fault
-unreadable_by v bytes fault is =
-    grind arith
-
 pub head_unreadable : (v : Values) (bytes : List ℕ) (fault : JournalFault) → Err fault ≡ head_reading v bytes
     → IsUnreadable v bytes fault
-head_unreadable v bytes fault is = unreadable_by v bytes fault (head_refused v bytes fault (sym is)).0
+head_unreadable v bytes fault is =
+    grind (arith, head_refused v bytes fault)
 
 -- or are the file of a study of the plan
 pub head_fine : (v : Values) (bytes : List ℕ) (done : ⊤) → head_reading v bytes ≡ Ok done → IsOfPlan v bytes
@@ -112,17 +108,11 @@ head_read size count bytes head whole is read =
     let all : count ≡ min 65582 (length bytes) = omega arith in
     read ∙ between_is bytes 0 count ∙ ap (λ (n : ℕ). take n bytes) all ∙ take_min 65582 bytes
 
-refused_by : (v : Values) (old new : DiskState) (fault : JournalFault) → new ≡ synced old
-    → reading v old.bytes ≡ Err fault → IsOpeningFaultOf fault → IsRefused v fault old new
-refused_by v old new fault same is may =
-    grind arith
-
 pub head_refuses : (v : Values) (old new : DiskState) (head : List ℕ) (fault : JournalFault)
     → length (canonical_text v) ≤ 65536 → new ≡ synced old → head ≡ head_in old.bytes
     → Err fault ≡ head_reading v head → IsRefused v fault old new
 head_refuses v old new head fault short same read is =
-    let refused = head_refused v old.bytes fault (sym (head_cut v old.bytes head short read) ∙ sym is) in
-    refused_by v old new fault same refused.0 refused.1
+    grind (arith, head_refused v old.bytes fault, head_cut v old.bytes head short read)
 
 pub head_opens : (v : Values) (bytes head : List ℕ) (done : ⊤) → length (canonical_text v) ≤ 65536
     → head ≡ head_in bytes → Ok done ≡ head_reading v head → IsOfPlan v bytes
@@ -132,6 +122,5 @@ head_opens v bytes head done short read is = head_fine v bytes done (sym (head_c
 pub slips_of_head : (result : Result Slips JournalFault) (v : Values) (old new : DiskState) (head : List ℕ) (done : ⊤)
     → length (canonical_text v) ≤ 65536 → new ≡ synced old → head ≡ head_in old.bytes → Ok done ≡ head_reading v head
     → IfErr result IsSlipFault → AreRead result v new.bytes → Finds result v old new
-slips_of_head result v old new head done short same read is faults are = slips_found result v old new same
-    (plan_read v old.bytes (head_opens v old.bytes head done short read is)
-    ∙ ap (λ (d : DiskState). slips_reading v d.bytes) (sym same)) faults are
+slips_of_head result v old new head done short same read is faults are =
+    grind (arith, plan_read v old.bytes (head_opens v old.bytes head done short read is))

@@ -108,5 +108,5 @@ through_is {E} P (Err fault) at put old new stay durable before torn (inr (left,
     })
 
 pub on_ok : {T E : Type 0} (result : Result T E) (P : Type 0) → (is_ok result ≡ true → P) → OnOk result P
-on_ok (Ok x) P holds = holds refl
-on_ok (Err e) P holds = tt
+on_ok result P holds =
+    grind arith

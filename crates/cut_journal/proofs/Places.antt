@@ -130,8 +130,8 @@ are_placed v bytes (suc more) i slips is =
 
 -- the slips are never read as no study
 then_none : (s : Slip) (r : Result (List Slip) JournalFault) → then_slips s r ≡ Err NoStudy → r ≡ Err NoStudy
-then_none s (Ok rest) is = absurd (cc)
-then_none s (Err fault) is = is
+then_none s r is =
+    grind arith
 
 pub never_none : (v : Values) (more number : ℕ) (rest : List ℕ) → slips_in v more number rest ≡ Err NoStudy → ⊥
 never_none v zero number rest is = cc

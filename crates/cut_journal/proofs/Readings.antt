@@ -205,11 +205,3 @@ pub header_judged : (bytes : List ℕ) (found : Option ℕ) (n : ℕ) (has : Boo
 unfolding has_header
 header_judged bytes found n has reported some is =
     grind arith
-
--- ---- a study that is read to its end
-
-pub slips_found : (result : Result Slips JournalFault) (v : Values) (old new : DiskState) → new ≡ synced old
-    → reading v old.bytes ≡ slips_reading v new.bytes → IfErr result IsSlipFault → AreRead result v new.bytes
-    → Finds result v old new
-slips_found result v old new same is faults are =
-    grind arith

@@ -1,6 +1,6 @@
 -- Slips that are appended one after another, and what each crash of it leaves.
 use Rattle.std.proofs.Common.{◌≡◌, ◌∙◌, ◌++◌, inl, inr, ℕ, List, [], ◌∷◌, Option, Some, None, refl}
-use Rattle.std.proofs.Common.{sym, subst, append-nil, append_assoc}
+use Rattle.std.proofs.Common.{arith, sym, subst, append-nil, append_assoc}
 use Rattle.std.specs.Prelude.{IsSome, ◌⊎◌}
 use Rattle.cut_plan.specs.Values.{Values}
 use Rattle.cut_disks.specs.State.{DiskState, Throughout}
@@ -9,13 +9,13 @@ use Rattle.cut_journal.specs.Journal.{AppendsEach, IsFileOf, ReadsAs, kept_slips
 use Rattle.cut_journal.proofs.Moments.{stays, weaker, and_then}
 
 pub none_of : (o : Option Slip) → (IsSome o → ⊥) → o ≡ None
-none_of None never = refl
-none_of (Some s) never = absurd (never refl)
+none_of o never =
+    grind arith
 
 reads_on : (v : Values) (kept : List Slip) (e : Option Slip) (bytes : List ℕ) → ReadsAs v kept None bytes
     → ReadsAs v kept e bytes
-reads_on v kept e bytes (inl reads) = inl reads
-reads_on v kept e bytes (inr other) = absurd (cc (other.1.0))
+reads_on v kept e bytes reads =
+    grind arith
 
 -- what an append of each kind leaves to be said of the doubtful slip before it
 abbrev pub LeavesDoubt : Option Slip → Option Slip → List Slip → Type 0
@@ -24,9 +24,8 @@ LeavesDoubt d e ys = (d ≡ None) ⊎ ((ys ≡ []) × (e ≡ d))
 -- moments at which only the kept slips are there
 only_kept : (v : Values) (kept : List Slip) (d e : Option Slip) (old mid : DiskState) → LeavesDoubt d e []
     → Throughout old mid (ReadsAs v kept d) → Throughout old mid (ReadsAs v kept e)
-only_kept v kept d e old mid (inl none) before =
-    weaker (ReadsAs v kept None) (ReadsAs v kept e) (reads_on v kept e) old mid (rw none at before)
-only_kept v kept d e old mid (inr same) before = rw same.1 before
+only_kept v kept d e old mid doubt before =
+    grind (arith, weaker (ReadsAs v kept None) (ReadsAs v kept e) (reads_on v kept e) old mid)
 
 -- before others
 begun_with : (v : Values) (kept ys : List Slip) (d e : Option Slip) (old mid new : DiskState) → LeavesDoubt d e ys

@@ -52,8 +52,8 @@ number_is version s tail i n low is fits =
 -- possible totals are all kept in a slip of the plan's version
 pub settled_holds : (version : Version) (n m : ℕ) (x : Totals) → IsSettledBy version n m x.settled
     → HoldsAllTotals version x
-settled_holds One n m x is = is
-settled_holds Two n m x is = tt
+settled_holds version n m x is =
+    grind arith
 
 back : (version : Version) (s : Slip) (tail : List ℕ) → HasNumbers s → HoldsAllTotals version s.totals
     → slip_in version (number_bytes version s ++ tail) ≡ s

@@ -23,10 +23,8 @@ use Rattle.cut_journal.proofs.Readings.{first_there, plan_read, reading_at}
 
 pub begins_at : (k : Inside) → IsOfPlan k.study k.bytes.now → k.gate.number ≡ 0 → k.gate.place ≡ gate_place k.study 0
     → IsAtGate k
-begins_at k is none here = record {
-  place = here ∙ ap (gate_place k.study) (sym none);
-  within = omega (arith, first_there k.study k.bytes.now is.header is.text, here);
-}
+begins_at k is none here =
+    grind (arith, first_there k.study k.bytes.now is.header is.text)
 
 pub begins_unread : (k : Inside) → IsOfPlan k.study k.bytes.now → k.gate.number ≡ 0 → k.gate.place
     ≡ gate_place k.study 0 → (unread_of k).slips ≡ reading k.study k.bytes.now
@@ -62,12 +60,8 @@ next_at k slip size is at step =
 pub reads_on : (k : Inside) (slip : Slip) (size : ℕ) → size ≡ slip_length (version_of k.study.failing) → IsAtGate k
     → IsStep (Ok (Some slip)) k.study (k.gate.number + 1) (drop k.gate.place k.bytes.now)
     → IsReadNext (Ok (Some slip)) (unread_of k) (unread_of (moved k size))
-reads_on k slip size is at step = (
-  opened k (then_slips slip (unread_of (moved k size)).slips) at
-      (whole_in k.study (length k.bytes.now - (k.gate.number + 1)) (k.gate.number + 1) (drop k.gate.place k.bytes.now)
-      step.0 step.1 ∙ rw (← step.2, ← is, drop-drop size k.gate.place k.bytes.now) refl),
-  omega (arith, is, at.within, nine_numbers (version_of k.study.failing)),
-)
+reads_on k slip size is at step =
+    grind (arith, opened k (then_slips slip (unread_of (moved k size)).slips) at, whole_in, drop-drop, nine_numbers)
 
 pub reads_none : (k : Inside) → IsAtGate k
     → IsStep (Ok None) k.study (k.gate.number + 1) (drop k.gate.place k.bytes.now) → (unread_of k).slips ≡ Ok []
