@@ -39,29 +39,11 @@ taken_in xs ys old mid before same after some =
 pub added_then : {D : Type 0} (log : D → DiskLog) (xs ys : List Slip) (failed : Option Slip)
     (old mid new : JournalValue D) → Adds log xs None old mid → Adds log ys failed mid new
     → Adds log (xs ++ ys) failed old new
-added_then log xs ys failed old mid new before after = record {
-  plan = after.plan ∙ before.plan;
-  count = omega (arith, before.count, after.count, length-append xs ys);
-  doubtful = after.doubtful ∙ ap (λ (o : Option Slip). doubtful_after failed o) before.doubtful;
-  taken = taken_in xs ys old.doubtful mid.doubtful before.taken before.doubtful after.taken;
-  whole = λ some. sym before.doubtful ∙ after.whole some;
-  untouched = λ none unfailed. after.untouched (omega (arith, none, length-append xs ys)) unfailed
-      ∙ before.untouched (omega (arith, none, length-append xs ys)) refl;
-  disk = record {
-    known = after.disk.known ∙ before.disk.known;
-    state = λ known. (let first = before.disk.state known in
-        let second = after.disk.state (before.disk.known ∙ known) in record {
-          moments = each_then old.plan (kept_slips old.plan old.count (on (log old.disk)))
-              (kept_slips mid.plan mid.count (on (log mid.disk))) xs ys mid.doubtful new.doubtful (on (log old.disk))
-              (on (log mid.disk)) (on (log new.disk)) first.kept
-              (doubt_left ys failed mid.doubtful new.doubtful after.taken after.whole after.doubtful) first.moments
-              (grind (arith, second.moments, before.plan));
-          kept = second.kept ∙ ap (λ (l : List Slip). l ++ ys) first.kept
-              ∙ append_assoc (kept_slips old.plan old.count (on (log old.disk))) xs ys;
-        });
-    faults = after.disk.faults ∙ ap (λ n. failures_after failed n) before.disk.faults;
-  };
-}
+added_then log xs ys failed old mid new before after =
+    grind (arith, length-append, append_assoc, taken_in xs ys old.doubtful mid.doubtful, doubt_left ys failed
+    mid.doubtful new.doubtful, each_then old.plan (kept_slips old.plan old.count (on (log old.disk)))
+    (kept_slips mid.plan mid.count (on (log mid.disk))) xs ys mid.doubtful new.doubtful (on (log old.disk))
+    (on (log mid.disk)) (on (log new.disk)))
 
 -- ---- one
 

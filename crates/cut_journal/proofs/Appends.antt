@@ -207,16 +207,8 @@ reads_more v slips doubtful slip bytes reads =
 pub append_stays : {D : Type 0} (log : D → DiskLog) (fault : JournalFault) (slip : Slip) (j : JournalValue D)
     → ((n : ℕ) → fault_counts fault n ≡ n) → Knows (log j.disk) (IsFileOf j.plan j.count j.doubtful)
     → Appends log (Err fault) slip j j
-append_stays log fault slip j uncounted sound = record {
-  known = refl;
-  state = λ known. record {
-    moments = grind (arith, sound known);
-    kept = refl;
-    file = tt;
-    acknowledged = tt;
-  };
-  faults = sym (uncounted (log j.disk).failed);
-}
+append_stays log fault slip j uncounted sound =
+    grind (arith, uncounted (log j.disk).failed)
 
 -- ---- the journal after an append
 
@@ -246,23 +238,8 @@ pub slip_kept : {D E : Type 0} (log : D → DiskLog) (number : ℕ) (slip : Slip
     → Appends log (Ok number) slip (record { disk = old; plan = v; count = n; doubtful = doubtful })
     (record { disk = new; plan = v; count = n + 1; doubtful = doubtful }) × Knows (log new) (IsFileOf v (n + 1) doubtful)
 slip_kept log number slip old new v n doubtful none sound goes =
-    let parts = λ (known : IsKnown (log old)). (let keeps = goes.state known in
-    added v n slip (on (log old)) (on (log new))
-    (subst (λ (o : Option Slip). IsFileOf v n o (on (log old))) none (sound known)) keeps.kept keeps.durable) in (
-      record {
-        known = goes.known;
-        state = λ known. (let keeps = goes.state known in record {
-          moments = rw none keeps.moments;
-          kept = (parts known).1;
-          file = keeps.file;
-          acknowledged = rw (parts known).1 (settled_images (λ (image : List ℕ). reading v image
-              ≡ Ok (kept_slips v n (on (log old)) ++ slip ∷ [])) (on (log new)).stable (on (log new)).bytes keeps.durable
-              keeps.kept);
-        });
-        faults = goes.faults;
-      },
-      λ known. rw none (parts (sym goes.known ∙ known)).0,
-    )
+    grind (arith, added v n slip (on (log old)) (on (log new)), settled_images (λ (image : List ℕ). reading v image
+    ≡ Ok (kept_slips v n (on (log old)) ++ slip ∷ [])) (on (log new)).stable (on (log new)).bytes)
 
 -- it is not known whether it was
 pub slip_doubted : {D E : Type 0} (log : D → DiskLog) (fault : E) (slip : Slip) (old new : D) (v : Values) (n : ℕ)
@@ -270,17 +247,5 @@ pub slip_doubted : {D E : Type 0} (log : D → DiskLog) (fault : E) (slip : Slip
     → Goes one_more (KeepsSlip {E = E} (Err fault) v n slip) (log old) (log new)
     → Appends log (Err Disk) slip (record { disk = old; plan = v; count = n; doubtful = doubtful })
     (record { disk = new; plan = v; count = n; doubtful = Some slip }) × Knows (log new) (IsFileOf v n (Some slip))
-slip_doubted log fault slip old new v n doubtful none sound goes = (
-  record {
-    known = goes.known;
-    state = λ known. (let keeps = goes.state known in record {
-      moments = rw none keeps.moments;
-      kept = kept_same v n slip (on (log old)) (on (log new)) (sound known).counted keeps.left.0;
-      file = tt;
-      acknowledged = tt;
-    });
-    faults = goes.faults;
-  },
-  λ known. (let before = sym goes.known ∙ known in
-      failed_sound v n slip (on (log old)) (on (log new)) (sound before).counted (goes.state before).left),
-)
+slip_doubted log fault slip old new v n doubtful none sound goes =
+    grind (arith, kept_same v n slip (on (log old)) (on (log new)), failed_sound v n slip (on (log old)) (on (log new)))

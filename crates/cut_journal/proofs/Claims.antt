@@ -45,11 +45,4 @@ pub not_opened : (v : Values) (first fault : JournalFault) (old mid new : DiskLo
     → Goes (fault_counts first) (IsRefused v first) old mid → Goes (fault_counts fault) (IsNotClaimed v fault) mid new
     → Goes (fault_counts fault) (IsNotOpened v fault) old new
 not_opened v first fault old mid new is before last =
-    record {
-      known = last.known ∙ before.known;
-      state = λ known. (let was = subst (λ (f : JournalFault). IsRefused v f (on old) (on mid)) is (before.state known) in
-          refused_so v fault (on old) (on new) was.0 (subst (λ (d : DiskState). IsNotClaimed v fault d (on new)) was.1
-          (last.state (before.known ∙ known))));
-      faults = last.faults ∙ ap (fault_counts fault)
-          (subst (λ (f : JournalFault). mid.failed ≡ fault_counts f old.failed) is before.faults);
-    }
+    grind (arith, refused_so v fault (on old) (on new))

@@ -93,12 +93,7 @@ prefix_begins v bytes short long prefix =
     let header = alike_part m 1 (n + 13) bytes (prefix_of v) alike (omega (arith, is, place)) ∙ header_in v n is in
     let digest = alike_part m (n + 13) (n + 45) bytes (prefix_of v) alike (omega (arith, is, place)) ∙ digest_in v n is
     in
-    record {
-      study = grind (arith, nat_tests, alike_place m 0 bytes (prefix_of v) alike);
-      header = grind (arith, nat_tests, bytes_eq-Decides, (parts_of v).2);
-      text = grind (arith, nat_tests, bytes_eq-Decides);
-      letters = grind (arith, bytes_eq-Decides);
-    }
+    grind (arith, nat_tests, alike_place m 0 bytes (prefix_of v) alike, bytes_eq-Decides, (parts_of v).2)
 
 -- ---- bytes that begin alike
 

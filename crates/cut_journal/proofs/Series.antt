@@ -33,14 +33,8 @@ begun_with : (v : Values) (kept ys : List Slip) (d e : Option Slip) (old mid new
     → AppendsEach v kept e ys mid new → AppendsEach v kept e ys old new
 begun_with v kept [] d e old mid new doubt before after =
     and_then (ReadsAs v kept e) old mid new (only_kept v kept d e old mid doubt before) after
-begun_with v kept (y ∷ ys) d e old mid new (inl none) before after = (
-  after.0,
-  (
-    and_then (ReadsAs v kept (Some y)) old mid after.0 (only_kept v kept d (Some y) old mid (inl none) before) after.1.0,
-    after.1.1,
-  ),
-)
-begun_with v kept (y ∷ ys) d e old mid new (inr same) before after = absurd (cc (same.0))
+begun_with v kept (y ∷ ys) d e old mid new doubt before after =
+    grind (arith, and_then (ReadsAs v kept (Some y)) old mid, only_kept v kept d (Some y) old mid)
 
 -- slips that are appended after others
 pub each_then : (v : Values) (kept now xs ys : List Slip) (d e : Option Slip) (old mid new : DiskState) → now ≡ kept
