@@ -4,7 +4,10 @@ use Rattle.std.proofs.Common.{sym, ap, subst, arith, append-nil, append_assoc, l
 use Rattle.std.specs.Bool.{⊤}
 use Rattle.std.specs.Prelude.{IsSome, IsErrOf, ◌↔◌}
 use Rattle.cut_disks.specs.Log.{DiskLog, Knows, on}
-use Rattle.cut_disks.specs.State.{Throughout}
+use Rattle.cut_plan.specs.Values.{Values}
+use Rattle.cut_disks.specs.State.{DiskState, IsImage, Throughout}
+use Rattle.cut_journal.specs.Reading.{reading}
+use Rattle.cut_journal.specs.Journal.{AppendsEach}
 use Rattle.cut_ledger.specs.declared.slip.Slip.{Slip}
 use Rattle.cut_journal.specs.declared.fault.JournalFault.{JournalFault}
 use Rattle.cut_journal.specs.declared.fault.JournalFault.TheVariants as journal
@@ -89,29 +92,8 @@ module _ {D : Type 0} (log : D → DiskLog) (slip : Slip) (old new : JournalValu
       → (IsErrOf {T = ℕ} (Err e) journal.Broken ↔ IsSome old.doubtful) → LeavesAppend (Err e) slip old new
       → Appends log (Err e) slip old new → EndsAdding {T = ⊤} log (Err (store_fault_of e)) (slip ∷ []) old new
   slip_failed journal.Disk may broken left appends =
-      let none : old.doubtful ≡ None = none_of old.doubtful (λ some. cc (broken.1 some)) in (
-        [],
-        Some slip,
-        (
-          record {
-            plan = left.0;
-            count = omega (arith, left.1);
-            doubtful = left.2;
-            taken = λ some. none;
-            whole = λ some. none;
-            untouched = λ zero unfailed. absurd (cc);
-            disk = record {
-              known = appends.known;
-              state = λ known. (let one = appends.state known in record {
-                moments = rw left.2 (rw none at one.moments);
-                kept = one.kept ∙ sym (append-nil (kept_slips old.plan old.count (on (log old.disk))));
-              });
-              faults = appends.faults;
-            };
-          },
-          (slip, [], (refl, refl)),
-        ),
-      )
+      let none : old.doubtful ≡ None = none_of old.doubtful (λ some. cc (broken.1 some)) in
+      ([], Some slip, (grind (arith, none, append-nil), (slip, [], (refl, refl))))
   slip_failed journal.Broken may broken left appends =
       subst (λ (j : JournalValue D). EndsAdding {T = ⊤} log (Err store.Broken) (slip ∷ []) old j) (sym left)
       ([], None, (none_added log old sound, (omega arith, broken.0 refl, (refl, refl))))
@@ -122,9 +104,7 @@ module _ {D : Type 0} (log : D → DiskLog) (slip : Slip) (old new : JournalValu
 pub all_added : {T D : Type 0} (log : D → DiskLog) (done : T) (xs ys all : List Slip) (old mid new : JournalValue D)
     → xs ++ ys ≡ all → Adds log xs None old mid → EndsAdding {T = T} log (Ok done) ys mid new → Adds log all None old new
 all_added log done xs ys all old mid new are before (added, failed, ends) =
-    subst (λ (l : List Slip). Adds log l None old new) (ap (λ (l : List Slip). xs ++ l) ends.1.0 ∙ are)
-    (subst (λ (o : Option Slip). Adds log (xs ++ added) o old new) ends.1.1
-    (added_then log xs added failed old mid new before ends.0))
+    grind (arith, added_then log xs added failed old mid new)
 
 -- none were added before to a journal that is broken
 pub none_before : (xs : List Slip) (old mid : Option Slip) → (1 ≤ length xs → old ≡ None) → mid ≡ old → IsSome mid → xs ≡ []

@@ -28,22 +28,10 @@ begins bytes prefix rest is = ap (take (length prefix)) is ∙ take_at prefix re
 
 -- ---- a new study
 
-new_file : (v : Values) (bytes : List ℕ) → BeginsAs v bytes
+pub new_file : (v : Values) (bytes : List ℕ) → BeginsAs v bytes
     → StartsWith (overwritten bytes 0 (open_gate ∷ [])) (file_of v [])
 new_file v bytes begun = begins (overwritten bytes 0 (open_gate ∷ [])) (file_of v []) begun.1.0
     (rw begun.1.1.0 (grind (arith, whole_prefix v begun.1.0, append-nil, append_assoc)))
-
-pub new_opened : {E : Type 0} (result : Result ⊤ E) (v : Values) (old new : DiskState) → length (canonical_text v)
-    ≤ 65536 → WritesStayInSpan → HasBegun v old → WritesThrough result 0 (open_gate ∷ []) old new
-    → WritesNew result v old new
-new_opened result v old new short stay begun is =
-    let opened = open_step result v old new short stay begun.durable begun.begins is in record {
-      moments = opened.moments;
-      durable = on_ok result _ opened.durable;
-      made = on_ok result _ (λ ok. ap (reading v) (opened.bytes ok) ∙ open_reads v old.bytes short begun.begins);
-      file = on_ok result _ (λ ok. subst (λ (l : List ℕ). StartsWith l (file_of v [])) (sym (opened.bytes ok))
-          (new_file v old.bytes begun.begins));
-    }
 
 -- ---- one slip more
 
