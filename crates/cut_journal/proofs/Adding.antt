@@ -1,19 +1,15 @@
 -- Slips that are added to a journal, one after another.
-use Rattle.std.proofs.Common.{◌≡◌, ◌∙◌, ◌≤◌, ◌++◌, inl, inr, ℕ, List, [], ◌∷◌, Ok, Err, Option, Some, None, refl}
-use Rattle.std.proofs.Common.{sym, ap, subst, arith, append-nil, append_assoc, length, length-append, unwrap_or}
+use Rattle.std.proofs.Common.{◌≡◌, ◌∙◌, ◌≤◌, ◌++◌, inl, ℕ, List, [], ◌∷◌, Ok, Err, Option, Some, None, refl}
+use Rattle.std.proofs.Common.{sym, ap, subst, arith, append-nil, append_assoc, length, length-append}
 use Rattle.std.specs.Bool.{⊤}
 use Rattle.std.specs.Prelude.{IsSome, IsErrOf, ◌↔◌}
 use Rattle.cut_disks.specs.Log.{DiskLog, Knows, on}
-use Rattle.cut_plan.specs.Values.{Values}
-use Rattle.cut_disks.specs.State.{DiskState, IsImage, Throughout}
-use Rattle.cut_journal.specs.Reading.{reading}
-use Rattle.cut_journal.specs.Journal.{AppendsEach}
 use Rattle.cut_ledger.specs.declared.slip.Slip.{Slip}
 use Rattle.cut_journal.specs.declared.fault.JournalFault.{JournalFault}
 use Rattle.cut_journal.specs.declared.fault.JournalFault.TheVariants as journal
 use Rattle.cut_journal.specs.declared.store_fault.StoreFault.{StoreFault}
 use Rattle.cut_journal.specs.declared.store_fault.StoreFault.TheVariants as store
-use Rattle.cut_journal.specs.Adding.{Adds, EndsAdding, doubtful_after, failures_after}
+use Rattle.cut_journal.specs.Adding.{Adds, EndsAdding, doubtful_after}
 use Rattle.cut_journal.specs.inside.Adding.{store_fault_of}
 use Rattle.cut_journal.specs.Journal.{Appends, IsFileOf, IsSlipAppendFault, JournalValue, LeavesAppend, ReadsAs, kept_slips}
 use Rattle.cut_journal.proofs.Moments.{stays}
@@ -43,10 +39,17 @@ pub added_then : {D : Type 0} (log : D → DiskLog) (xs ys : List Slip) (failed 
     (old mid new : JournalValue D) → Adds log xs None old mid → Adds log ys failed mid new
     → Adds log (xs ++ ys) failed old new
 added_then log xs ys failed old mid new before after =
-    grind (arith, length-append, append_assoc, taken_in xs ys old.doubtful mid.doubtful, doubt_left ys failed
-    mid.doubtful new.doubtful, each_then old.plan (kept_slips old.plan old.count (on (log old.disk)))
-    (kept_slips mid.plan mid.count (on (log mid.disk))) xs ys mid.doubtful new.doubtful (on (log old.disk))
-    (on (log mid.disk)) (on (log new.disk)))
+    grind (
+      arith,
+      length-append,
+      append_assoc,
+      taken_in xs ys old.doubtful mid.doubtful,
+      doubt_left ys failed
+          mid.doubtful new.doubtful,
+      each_then old.plan (kept_slips old.plan old.count (on (log old.disk)))
+          (kept_slips mid.plan mid.count (on (log mid.disk))) xs ys mid.doubtful new.doubtful (on (log old.disk))
+          (on (log mid.disk)) (on (log new.disk)),
+    )
 
 -- ---- one
 

@@ -10,20 +10,20 @@ use Rattle.std.proofs.lemmas.List.{take_at, drop_at, take_all, length-take, get_
 use Rattle.sha2.proofs.Facts256.{length-sha256}
 use Rattle.cut_plan.specs.Failing.{version_of}
 use Rattle.cut_plan.specs.Values.{Values}
-use Rattle.cut_disks.specs.State.{DiskState, IsTorn, covers, settled, overwritten}
+use Rattle.cut_disks.specs.State.{DiskState, IsTorn, settled, overwritten}
 use Rattle.cut_disks.specs.Laws.{WritesStayInSpan}
-use Rattle.cut_disks.specs.Log.{DiskLog, Goes, IsKnown, Knows, on}
+use Rattle.cut_disks.specs.Log.{DiskLog, Goes, Knows, on}
 use Rattle.cut_faults.specs.Failures.{one_more}
 use Rattle.cut_ledger.specs.declared.slip.Slip.{Slip}
 use Rattle.cut_journal.specs.declared.fault.JournalFault.{JournalFault}
 use Rattle.cut_journal.specs.declared.fault.JournalFault.TheVariants.{Disk}
 use Rattle.cut_journal.specs.File.{HoldsAllTotals, open_gate, closed_gate, numbers_length, slip_length, body_of}
-use Rattle.cut_journal.specs.Reading.{is_slip, slip_in, reading}
+use Rattle.cut_journal.specs.Reading.{reading}
 use Rattle.cut_journal.specs.Journal.{Appends, JournalValue, ReadsAs, IsFileOf, fault_counts, kept_slips, slips_of}
 use Rattle.cut_journal.specs.inside.Steps.{HasNumbers, WritesThrough, KeepsSlip, Leave}
 use Rattle.cut_journal.proofs.Counts.{alike_at, alike_prefix}
 use Rattle.cut_journal.proofs.Gates.{gate_next}
-use Rattle.cut_journal.proofs.Moments.{Through, through_is, settled_images, stays}
+use Rattle.cut_journal.proofs.Moments.{Through, through_is, settled_images}
 use Rattle.cut_journal.proofs.Readings.{Holds, gate_there, reads_holds, closed_read, opened_read}
 use Rattle.cut_journal.proofs.SlipBytes.{long_bytes, slip_back, slip_whole}
 use Rattle.cut_journal.specs.inside.Places.{body_at, first_slips, gate_place, is_open}
@@ -145,9 +145,16 @@ second_torn v n old torn slip stay sound fits reports is =
     ∙ alike_prefix (g + 1) g mid old.bytes (over_prefix old.bytes put (g + 1) (omega (arith, there))) (omega arith) in
     let after = written_after v n torn (drop (g + 1 + length put) old.bytes) slip
     (torn_rest g (g + 1) mid torn is low ∙ rest) in
-    grind (arith, ready, after, opened_read v n old.bytes torn slip ready.0.prefix whole prefix after.0,
-      closed_read v n old.bytes torn ready.0.prefix whole prefix, slip_whole v slip fits, slip_back v slip fits reports,
-      gate_next v n)
+    grind (
+      arith,
+      ready,
+      after,
+      opened_read v n old.bytes torn slip ready.0.prefix whole prefix after.0,
+      closed_read v n old.bytes torn ready.0.prefix whole prefix,
+      slip_whole v slip fits,
+      slip_back v slip fits reports,
+      gate_next v n,
+    )
 
 -- the second write, and its sync
 pub second_step : {E : Type 0} (result : Result ⊤ E) (v : Values) (n : ℕ) (slip : Slip) (old mid new : DiskState)
@@ -169,8 +176,11 @@ second_step result v n slip old mid new stay sound fits reports wrote durable is
     before reads is in (
       step,
       λ ok. (let bytes : new.bytes ≡ overwritten mid.bytes g (open_gate ∷ []) = step.bytes ok in
-          let low : g ≤ length mid.bytes = rw wrote (omega (arith, gate_before v n g old refl sound,
-          (stay old.bytes (put_of v slip) (g + 1)).no_shorter)) in
+          let low : g ≤ length mid.bytes = rw wrote (omega (
+            arith,
+            gate_before v n g old refl sound,
+            (stay old.bytes (put_of v slip) (g + 1)).no_shorter,
+          )) in
           let first : get_or new.bytes g 0 ≡ open_gate = rw bytes (over_at mid.bytes open_gate g low) in
           let t : IsTorn g (g + 1) mid.bytes new.bytes = rw bytes (stay mid.bytes (open_gate ∷ []) g) in
           (torn new.bytes t).0 ((Decides-eqb (get_or new.bytes g 0) open_gate).1 first)),
@@ -238,8 +248,12 @@ pub slip_kept : {D E : Type 0} (log : D → DiskLog) (number : ℕ) (slip : Slip
     → Appends log (Ok number) slip (record { disk = old; plan = v; count = n; doubtful = doubtful })
     (record { disk = new; plan = v; count = n + 1; doubtful = doubtful }) × Knows (log new) (IsFileOf v (n + 1) doubtful)
 slip_kept log number slip old new v n doubtful none sound goes =
-    grind (arith, added v n slip (on (log old)) (on (log new)), settled_images (λ (image : List ℕ). reading v image
-    ≡ Ok (kept_slips v n (on (log old)) ++ slip ∷ [])) (on (log new)).stable (on (log new)).bytes)
+    grind (
+      arith,
+      added v n slip (on (log old)) (on (log new)),
+      settled_images (λ (image : List ℕ). reading v image
+          ≡ Ok (kept_slips v n (on (log old)) ++ slip ∷ [])) (on (log new)).stable (on (log new)).bytes,
+    )
 
 -- it is not known whether it was
 pub slip_doubted : {D E : Type 0} (log : D → DiskLog) (fault : E) (slip : Slip) (old new : D) (v : Values) (n : ℕ)

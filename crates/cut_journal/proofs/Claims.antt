@@ -1,15 +1,15 @@
 -- What is left of a disk that was not claimed.
-use Rattle.std.proofs.Common.{◌≡◌, ◌∙◌, inl, inr, ℕ, true, false, List, Err}
-use Rattle.std.proofs.Common.{refl, ap, subst, arith}
-use Rattle.std.proofs.lemmas.Bool.{cases_Bool, false_from_ne_true, true_from_ne_false}
+use Rattle.std.proofs.Common.{◌≡◌, ℕ, true, false, List, Err}
+use Rattle.std.proofs.Common.{arith}
+use Rattle.std.proofs.lemmas.Bool.{false_from_ne_true}
 use Rattle.std.proofs.lemmas.Bool.Decides.{nat_tests}
 use Rattle.cut_plan.specs.Values.{Values}
 use Rattle.cut_disks.specs.State.{DiskState, synced}
 use Rattle.cut_disks.specs.Log.{DiskLog, Goes, on}
 use Rattle.cut_journal.specs.declared.fault.JournalFault.{JournalFault}
-use Rattle.cut_journal.specs.declared.fault.JournalFault.TheVariants.{Memory, Disk, NoStudy, Held}
+use Rattle.cut_journal.specs.declared.fault.JournalFault.TheVariants.{NoStudy}
 use Rattle.cut_journal.specs.Reading.{is_study, reading}
-use Rattle.cut_journal.specs.Opening.{IsNotClaimed, IsNotMade, IsBegunFile, IsOpening, is_foreign}
+use Rattle.cut_journal.specs.Opening.{IsNotClaimed, IsNotMade, is_foreign}
 use Rattle.cut_journal.specs.Opening.{is_unclaimed, IsNotOpened, IsRefused}
 use Rattle.cut_journal.specs.Journal.{fault_counts}
 use Rattle.cut_journal.proofs.Makings.{closed_none, short_none}

@@ -1,17 +1,15 @@
 -- What a crash leaves is what the machine of runs says.
-use Rattle.std.proofs.Common.{arith, ◌≡◌, ◌∙◌, ◌++◌, inl, inr, ℕ, Bool, true, false, cond, List, [], ◌∷◌, Ok, Err, Option}
-use Rattle.std.proofs.Common.{Some, None, is_some, unwrap_or, refl, sym, ap, subst, append-nil}
+use Rattle.std.proofs.Common.{arith, ◌≡◌, ◌++◌, inl, inr, ℕ, Bool, true, false, List, [], ◌∷◌, Option}
+use Rattle.std.proofs.Common.{Some, None, is_some, unwrap_or, refl, append-nil}
 use Rattle.cut_plan.specs.Values.{Values}
 use Rattle.cut_outcome.specs.Computed.{Computed}
-use Rattle.cut_disks.specs.State.{DiskState}
 use Rattle.cut_ledger.specs.declared.slip.Slip.{Slip}
 use Rattle.cut_ledger.specs.declared.event.Event.TheVariants.{HandIn, HandInDiskFails, CrashReopen}
 use Rattle.cut_ledger.specs.Machine.{StudyState, after, opened, slip_of, slips_found}
 use Rattle.cut_ledger.specs.Machine.{taken, failed}
 use Rattle.cut_ledger.specs.Refusals.{refusal_of}
-use Rattle.cut_journal.specs.declared.fault.JournalFault.TheVariants.{Disk}
-use Rattle.cut_journal.specs.Journal.{JournalValue, kept_slips, ReadsAs}
-use Rattle.cut_journal.specs.Laws.{IsJournalOf, IsResumed, CrashesBetweenCalls, CrashesInAppends, AppendsFollow}
+use Rattle.cut_journal.specs.Journal.{kept_slips, ReadsAs}
+use Rattle.cut_journal.specs.Laws.{IsResumed, CrashesBetweenCalls, CrashesInAppends, AppendsFollow}
 use Rattle.cut_journal.specs.Laws.{OpeningsFollow, OtherEventsFollow}
 use Rattle.cut_journal.proofs.Appends.{kept_are}
 use Rattle.cut_journal.proofs.Moments.{weaker}

@@ -1,12 +1,11 @@
 -- The bytes of a study's file, as the writes of a journal leave them.
-use Rattle.std.proofs.Common.{◌≡◌, ◌∙◌, ◌≤◌, ◌+◌, ◌++◌, ℕ, List, [], ◌∷◌, Result, Ok, Some, None, length, take, refl, sym, ap}
+use Rattle.std.proofs.Common.{◌≡◌, ◌∙◌, ◌+◌, ◌++◌, ℕ, List, [], ◌∷◌, Result, Ok, Some, None, length, take, refl, ap}
 use Rattle.std.proofs.Common.{zero-add, subst, arith, append-nil, append_assoc, length-append}
 use Rattle.std.specs.Bool.{⊤}
 use Rattle.std.specs.Io.{StartsWith}
 use Rattle.std.specs.List.{flat_map}
 use Rattle.std.proofs.lemmas.Grind.{flat_map-append}
 use Rattle.std.proofs.lemmas.List.{take_at, drop_at}
-use Rattle.cut_plan.specs.Canonical.{canonical_text}
 use Rattle.cut_plan.specs.Failing.{version_of}
 use Rattle.cut_plan.specs.Values.{Values}
 use Rattle.cut_disks.specs.State.{DiskState, overwritten}
@@ -14,13 +13,12 @@ use Rattle.cut_disks.specs.Laws.{WritesStayInSpan}
 use Rattle.cut_ledger.specs.declared.slip.Slip.{Slip}
 use Rattle.cut_journal.specs.File.{HoldsAllTotals, open_gate, closed_gate, prefix_of, file_of, body_of}
 use Rattle.cut_journal.specs.Journal.{ExtendsFile, IsFileOf, ReadsAs, kept_slips}
-use Rattle.cut_journal.specs.Reading.{reading}
-use Rattle.cut_journal.specs.inside.Steps.{BeginsAs, HasBegun, HasNumbers, KeepsSlip, WritesNew, WritesThrough}
+use Rattle.cut_journal.specs.inside.Steps.{BeginsAs, HasNumbers, KeepsSlip, WritesThrough}
 use Rattle.cut_journal.proofs.Appends.{put_of, long_body, first_step, second_step}
 use Rattle.cut_journal.proofs.Moments.{and_then, on_ok}
 use Rattle.cut_journal.proofs.Prefixes.{long_prefix}
 use Rattle.cut_journal.proofs.Gates.{gate_first, gate_next}
-use Rattle.cut_journal.proofs.Makings.{whole_prefix, open_step, open_reads}
+use Rattle.cut_journal.proofs.Makings.{whole_prefix}
 use Rattle.cut_journal.specs.inside.Places.{gate_place}
 
 begins : (bytes prefix rest : List ℕ) → bytes ≡ prefix ++ rest → StartsWith bytes prefix

@@ -1,5 +1,5 @@
 -- Where the gates of slips stand.
-use Rattle.std.proofs.Common.{◌≡◌, ◌≤◌, ◌<◌, ◌+◌, ◌*◌, ℕ, length, arith}
+use Rattle.std.proofs.Common.{◌≡◌, ◌≤◌, ◌+◌, ◌*◌, ℕ, length, arith}
 use Rattle.cut_fields.specs.declared.version.Version.{Version}
 use Rattle.cut_fields.specs.declared.version.Version.TheVariants.{One, Two}
 use Rattle.cut_plan.specs.Failing.{version_of}

@@ -12,10 +12,9 @@ use Rattle.cut_plan.specs.Values.{Values}
 use Rattle.cut_plan.specs.Canonical.{canonical_text}
 use Rattle.cut_disks.specs.State.{DiskState, synced}
 use Rattle.cut_journal.specs.declared.fault.JournalFault.{JournalFault}
-use Rattle.cut_journal.specs.declared.fault.JournalFault.TheVariants.{Memory, Disk, NoStudy, OtherPlan, Damaged}
 use Rattle.cut_journal.specs.Opening.{IsOpeningFaultOf, IsRefused}
 use Rattle.cut_journal.specs.Reading.{is_study, has_header, text_length, can_have_header}
-use Rattle.cut_journal.specs.Reading.{reading, slips_reading}
+use Rattle.cut_journal.specs.Reading.{reading}
 use Rattle.cut_journal.specs.Unread.{IsUnreadable}
 use Rattle.cut_journal.specs.declared.slips.Slips.{Slips}
 use Rattle.cut_journal.specs.inside.Steps.{AreRead, Finds, IsOfPlan, IsSlipFault, head_in, head_reading}

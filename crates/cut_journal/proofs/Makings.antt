@@ -1,21 +1,21 @@
 -- What the writes of a new study leave, whatever crash may come.
-use Rattle.std.proofs.Common.{◌≡◌, ◌∙◌, ◌≤◌, ◌<◌, ◌+◌, ◌-◌, ◌++◌, ◌==◌, ◌⊎◌, inl, inr, ℕ, false, List, []}
-use Rattle.std.proofs.Common.{◌∷◌, Result, Ok, length, take, drop, get_or, slice_index, refl, sym, ap, subst}
+use Rattle.std.proofs.Common.{◌≡◌, ◌∙◌, ◌≤◌, ◌<◌, ◌++◌, ◌==◌, ◌⊎◌, inl, ℕ, false, List, []}
+use Rattle.std.proofs.Common.{◌∷◌, Result, Ok, length, drop, slice_index, refl, sym, ap, subst}
 use Rattle.std.proofs.Common.{arith, append_assoc, length-append}
 use Rattle.std.specs.Bool.{⊤}
 use Rattle.std.proofs.lemmas.Bool.Decides.{nat_tests}
 use Rattle.std.proofs.lemmas.List.{take_at, get_or-append_right}
 use Rattle.cut_plan.specs.Values.{Values}
 use Rattle.cut_plan.specs.Canonical.{canonical_text}
-use Rattle.cut_disks.specs.State.{DiskState, Throughout, settled, synced, overwritten, covers}
+use Rattle.cut_disks.specs.State.{DiskState, Throughout, settled, synced, overwritten}
 use Rattle.cut_disks.specs.Laws.{WritesStayInSpan}
 use Rattle.cut_journal.specs.declared.fault.JournalFault.TheVariants.{Disk}
 use Rattle.cut_journal.specs.File.{open_gate, closed_gate, prefix_of, header_of, header_digest}
 use Rattle.cut_journal.specs.inside.File.{rest_of}
 use Rattle.cut_journal.specs.Reading.{is_study, reading}
 use Rattle.cut_journal.specs.Opening.{IsNewStudy, IsNotMade}
-use Rattle.cut_journal.specs.inside.Steps.{BeginsAs, WritesNew, WritesThrough}
-use Rattle.cut_journal.proofs.Moments.{Through, and_then, settled_images, stays, through_is, weaker}
+use Rattle.cut_journal.specs.inside.Steps.{BeginsAs, WritesThrough}
+use Rattle.cut_journal.proofs.Moments.{Through, and_then, settled_images, through_is, weaker}
 use Rattle.cut_journal.proofs.Appends.{torn_rest}
 use Rattle.cut_journal.proofs.Prefixes.{long_prefix}
 use Rattle.cut_journal.proofs.Gates.{gate_first}
@@ -63,8 +63,11 @@ new_read v rest short =
     ap (reading v) (whole_prefix v rest) ∙ holds_reads v bytes 0 (record {
       prefix = prefix_begins v bytes short there (take_at (prefix_of v) (closed_gate ∷ rest) (gate_place v 0) size);
       whole = λ i low. absurd (omega (arith, low));
-      closed = grind (arith, get_or-append_right (prefix_of v) (closed_gate ∷ rest) (gate_place v 0) (gate_place v 0) 0
-          size);
+      closed = grind (
+        arith,
+        get_or-append_right (prefix_of v) (closed_gate ∷ rest) (gate_place v 0) (gate_place v 0) 0
+            size,
+      );
     })
 
 -- whatever its first byte is

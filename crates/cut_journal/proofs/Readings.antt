@@ -1,23 +1,21 @@
 -- How bytes are read.
-use Rattle.std.proofs.Common.{◌≡◌, ◌∙◌, ◌≤◌, ◌<◌, ◌+◌, ◌-◌, ◌++◌, ◌==◌, ◌&&◌, inr, ℕ, zero, suc, Bool, true}
+use Rattle.std.proofs.Common.{◌≡◌, ◌∙◌, ◌≤◌, ◌<◌, ◌+◌, ◌-◌, ◌++◌, ◌==◌, ◌&&◌, ℕ, zero, suc, Bool, true}
 use Rattle.std.proofs.Common.{false, cond, List, [], ◌∷◌, Result, Ok, Err, length, take, slice_range}
 use Rattle.std.proofs.Common.{nat_le, refl, sym, ap, subst, arith, zero-add, add-one}
-use Rattle.std.specs.Prelude.{bytes_eq, Option, Some, None, IfErr}
+use Rattle.std.specs.Prelude.{bytes_eq, Option, Some, None}
 use Rattle.std.specs.Int.{w32, from_be_bytes}
 use Rattle.std.proofs.lemmas.Bool.Decides.{nat_tests}
 use Rattle.std.proofs.lemmas.List.FromFn.{map-range_with_len_more}
 use Rattle.sha2.specs.Sha256.{sha256}
 use Rattle.cut_plan.specs.Failing.{version_of}
 use Rattle.cut_plan.specs.Values.{Values}
-use Rattle.cut_disks.specs.State.{DiskState, synced}
 use Rattle.cut_ledger.specs.declared.slip.Slip.{Slip}
 use Rattle.cut_journal.specs.declared.fault.JournalFault.{JournalFault}
-use Rattle.cut_journal.specs.declared.slips.Slips.{Slips}
-use Rattle.cut_journal.specs.declared.fault.JournalFault.TheVariants.{Memory, Disk, NoStudy, Damaged}
+use Rattle.cut_journal.specs.declared.fault.JournalFault.TheVariants.{NoStudy, Damaged}
 use Rattle.cut_journal.specs.File.{open_gate}
 use Rattle.cut_journal.specs.Reading.{is_study, says_plan, is_magic, text_length, can_have_header}
 use Rattle.cut_journal.specs.Reading.{has_header, is_slip, slip_in, slips_reading, then_slips, reading}
-use Rattle.cut_journal.specs.inside.Steps.{AreRead, AreWhole, Finds, IsOfPlan, IsSlipFault}
+use Rattle.cut_journal.specs.inside.Steps.{AreWhole, IsOfPlan}
 use Rattle.cut_journal.proofs.Places.{slip_at, slips_at, closed_at, damaged_at, read_on, are_placed, never_none}
 use Rattle.cut_journal.proofs.Gates.{gate_first, gate_next, gate_far, gate_grows, nine_numbers}
 use Rattle.cut_journal.proofs.Headers.{of_plan_alike, says_length, has_can, header_room}

@@ -1,5 +1,5 @@
 -- Slips that are appended one after another, and what each crash of it leaves.
-use Rattle.std.proofs.Common.{◌≡◌, ◌∙◌, ◌++◌, inl, inr, ℕ, List, [], ◌∷◌, Option, Some, None, refl}
+use Rattle.std.proofs.Common.{◌≡◌, ◌∙◌, ◌++◌, ℕ, List, [], ◌∷◌, Option, Some, None, refl}
 use Rattle.std.proofs.Common.{arith, sym, subst, append-nil, append_assoc}
 use Rattle.std.specs.Prelude.{IsSome, ◌⊎◌}
 use Rattle.cut_plan.specs.Values.{Values}

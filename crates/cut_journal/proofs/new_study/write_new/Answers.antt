@@ -1,6 +1,4 @@
-use Rattle.std.proofs.Common.{◌∙◌, ap, arith}
-use Rattle.cut_faults.specs.Failures.{counted}
-use Rattle.cut_disks.specs.Log.{on}
+use Rattle.std.proofs.Common.{arith}
 use Rattle.cut_journal.specs.Opening.{IsNewStudy}
 use Rattle.cut_journal.proofs.Moments.{weaker, and_then}
 use Rattle.cut_journal.proofs.Makings.{IsNone, new_written, none_new}

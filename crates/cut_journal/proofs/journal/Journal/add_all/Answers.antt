@@ -1,4 +1,4 @@
-use Rattle.std.proofs.Common.{rules, ◌∙◌, ◌+◌, ◌++◌, ℕ, List, [], ◌∷◌, Result, Ok, Err, take, drop, get_or, sym, ap, subst}
+use Rattle.std.proofs.Common.{rules, ◌∙◌, ◌+◌, ◌++◌, ℕ, List, [], ◌∷◌, Result, Err, take, drop, get_or, sym, ap, subst}
 use Rattle.std.proofs.Common.{take-append-drop}
 use Rattle.std.specs.Bool.{⊤}
 use Rattle.std.proofs.lemmas.List.{take_more}
