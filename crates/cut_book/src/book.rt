@@ -163,9 +163,26 @@ impl<D: Disk> Book<D> {
         ensures moments { LeavesResumed D.log self.old.journal self.new.journal
             (after self.old.state (event.HandInDiskFails offered.now)) }
     {
-        match self.refusal(offered) {
-            Some(answer) => self.refuse(offered, answer),
-            None => self.enter(offered),
+        if let Some(answer) = self.refusal(offered) {
+            return self.refuse(offered, answer);
+        }
+        self.is_resumable(offered);
+        self.history.reserve()?;
+        let cell = self.ledger.plan().cell_of(offered.piece().first);
+        self.ledger.reserve(cell)?;
+        match append(&mut self.journal, offered) {
+            Ok(()) => {
+                let call = call_of(self.ledger.plan(), offered, Answer::Accepted);
+                self.history.push(call);
+                let _ = self.ledger.take(offered);
+                Ok(())
+            }
+            Err(_) => {
+                let call = call_of(self.ledger.plan(), offered, Answer::DiskFails);
+                self.history.push(call);
+                self.broken = true;
+                Err(BookFault::Checkpoint)
+            }
         }
     }
 
@@ -358,42 +375,6 @@ impl<D: Disk> Book<D> {
         laws::crashes_are_resumptions();
         if let Some(journal) = &self.journal {
             laws::journals_stay_readable(journal);
-        }
-    }
-
-    /// Appends the slip of a result that is not refused, and then enters it into the ledger, in which there
-    /// is room for it by then.
-    fn enter(&mut self, offered: &PieceResult) -> Result<(), BookFault>
-        requires free { refusal_in self.old.state offered.now ≡ None }
-        requires fits { CanTake self.old.state.ledger offered.now }
-        ensures answer { HandsIn (answer_of result self.old.state) offered.now self.old self.new }
-        ensures only_faults { IfErr result IsHandInFault }
-        ensures journal { IsErrOf result BookFault.Checkpoint → IsSome self.old.journal }
-        ensures risen { IsErrOf result BookFault.Checkpoint →
-            failures_of D.log self.new.journal ≡ one_more self.old.failed }
-        ensures faults { failures_of D.log self.new.journal
-            ≡ faults_after (answer_of result self.old.state) (failures_of D.log self.old.journal) }
-        ensures known { IsAsKnown D.log self.old.journal self.new.journal }
-        ensures moments { LeavesResumed D.log self.old.journal self.new.journal
-            (after self.old.state (event.HandInDiskFails offered.now)) }
-    {
-        self.is_resumable(offered);
-        self.history.reserve()?;
-        let cell = self.ledger.plan().cell_of(offered.piece().first);
-        self.ledger.reserve(cell)?;
-        match append(&mut self.journal, offered) {
-            Ok(()) => {
-                let call = call_of(self.ledger.plan(), offered, Answer::Accepted);
-                self.history.push(call);
-                let _ = self.ledger.take(offered);
-                Ok(())
-            }
-            Err(_) => {
-                let call = call_of(self.ledger.plan(), offered, Answer::DiskFails);
-                self.history.push(call);
-                self.broken = true;
-                Err(BookFault::Checkpoint)
-            }
         }
     }
 }

@@ -1,5 +1,5 @@
 use Rattle.std.proofs.lemmas.Grind.{common_steps}
-use Rattle.std.proofs.Common.{◌≡◌, ◌∙◌, Result, Ok, Err, IsOk, OnOk, ap, arith}
+use Rattle.std.proofs.Common.{◌≡◌, ◌∙◌, Result, Ok, Err, IsOk, OnOk, sym, ap, arith}
 use Rattle.cut_ledger.specs.Account.{Account}
 use Rattle.cut_ledger.specs.Contents.{with_piece}
 use Rattle.cut_ledger.specs.Machine.{StudyState, after, slip_of}
@@ -10,7 +10,7 @@ use Rattle.cut_book.proofs.Legal.{legal_on, noted}
 use Rattle.cut_book.proofs.Refused.{free}
 use Rattle.cut_book.proofs.Entered.{accepted_answer, accepted_book, entered_step, failed_answer}
 use Rattle.cut_book.proofs.Entered.{failed_book, failed_journal}
-use Rattle.cut_book.proofs.book.Book.enter.Goals as goal
+use Rattle.cut_book.proofs.book.Book.hand_in.Goals as goal
 
 ok_holds : {T E P : Type 0} (r : Result T E) → IsOk r → OnOk r P → P
 ok_holds (Ok x) ok holds = holds
@@ -20,7 +20,7 @@ pub push-requires-clause-legal : goal.push-requires-clause-legal
 push-requires-clause-legal g c =
     let s : StudyState = state_in c.self.inside.ledger.contents c.self.inside.journal c.self.inside.division
     c.self.inside.lost c.self.inside.history c.self.inside.broken in
-    let fit = free s c.args.offered.now (rw (← c.self.view_is) at c.requires.free) in
+    let fit = free s c.args.offered.now (rw (← c.self.view_is) at (sym c.in_default.ensures.value)) in
     let called = rw (c.plan-in-Ok.ensures.value, c.in_ok-reserve-2.ensures.ok) at c.call_of-call.ensures.call in
     legal_on c.call_of-call.result c.self.inside.history c.reserve.new.self s (after s (event_of Accepted
     c.args.offered.now)) c.reserve.ensures.opening
@@ -33,7 +33,7 @@ pub push-requires-in-Err-clause-legal : goal.push-requires-in-Err-clause-legal
 push-requires-in-Err-clause-legal g c =
     let s : StudyState = state_in c.self.inside.ledger.contents c.self.inside.journal c.self.inside.division
     c.self.inside.lost c.self.inside.history c.self.inside.broken in
-    let fit = free s c.args.offered.now (rw (← c.self.view_is) at c.requires.free) in
+    let fit = free s c.args.offered.now (rw (← c.self.view_is) at (sym c.in_default.ensures.value)) in
     let called = rw (c.plan-in-Err.ensures.value, c.in_ok-reserve-2.ensures.ok) at c.call_of-call-in-Err.ensures.call
     in
     let both = failed_journal (slip_of c.args.offered.now) s.ledger.plan c.self.inside.journal c.append.new.journal
@@ -52,7 +52,7 @@ pub invariant_of-self-in-Err : goal.invariant_of-self-in-Err
 invariant_of-self-in-Err g c =
     let s : StudyState = state_in c.self.inside.ledger.contents c.self.inside.journal c.self.inside.division
     c.self.inside.lost c.self.inside.history c.self.inside.broken in
-    let fit = free s c.args.offered.now (rw (← c.self.view_is) at c.requires.free) in
+    let fit = free s c.args.offered.now (rw (← c.self.view_is) at (sym c.in_default.ensures.value)) in
     let called = rw (c.plan-in-Err.ensures.value, c.in_ok-reserve-2.ensures.ok) at c.call_of-call-in-Err.ensures.call
     in
     let is = noted c.call_of-call-in-Err.result c.self.inside.history c.reserve.new.self c.push-in-Err.new.self
@@ -75,7 +75,7 @@ pub invariant_of-self-in-Ok : goal.invariant_of-self-in-Ok
 invariant_of-self-in-Ok g c =
     let s : StudyState = state_in c.self.inside.ledger.contents c.self.inside.journal c.self.inside.division
     c.self.inside.lost c.self.inside.history c.self.inside.broken in
-    let fit = free s c.args.offered.now (rw (← c.self.view_is) at c.requires.free) in
+    let fit = free s c.args.offered.now (rw (← c.self.view_is) at (sym c.in_default.ensures.value)) in
     let called = rw (c.plan-in-Ok.ensures.value, c.in_ok-reserve-2.ensures.ok) at c.call_of-call.ensures.call in
     let is = noted c.call_of-call.result c.self.inside.history c.reserve.new.self c.push.new.self
     c.reserve.ensures.opening
