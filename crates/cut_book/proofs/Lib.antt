@@ -6,5 +6,4 @@ pub mod Entered
 pub mod OpenedBooks
 pub mod Sums
 pub mod Merged
-pub mod Trusted
 pub mod OwnSlips

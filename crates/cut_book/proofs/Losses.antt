@@ -1,6 +1,6 @@
 -- Which pieces are lost, and how many are not.
-use Rattle.std.proofs.Common.{◌≡◌, ◌∙◌, ◌+◌, ◌<◌, ℕ, Bool, true, false, not, cond, List, [], ◌∷◌, length, map}
-use Rattle.std.proofs.Common.{set, get_or, count_by, refl, ap, arith}
+use Rattle.std.proofs.Common.{◌≡◌, ◌+◌, ◌<◌, ℕ, Bool, true, false, not, cond, List, [], ◌∷◌, length, map}
+use Rattle.std.proofs.Common.{set, get_or, count_by, refl, arith}
 use Rattle.std.specs.Prelude.{nat_lt}
 use Rattle.std.specs.List.{list_any}
 use Rattle.std.proofs.lemmas.List.Sums.{sum_by-cons, sum_by-set, count_by-le-length}
@@ -12,18 +12,14 @@ pub one_lost : (xs : List Bool) (i : ℕ) → i < length xs → get_or xs i true
     ≡ count_by not xs
 one_lost xs i low e = grind (arith, sum_by-set (λ (b : Bool). cond (not b) 1 0) xs i true true low)
 
-next_lt : (a b : ℕ) → nat_lt (1 + a) (1 + b) ≡ nat_lt a b
-next_lt a b = grind (arith, nat_tests)
-
 -- some piece is lost where fewer are not
 pub some_lost : (xs : List Bool) → nat_lt (count_by not xs) (length xs) ≡ list_any (λ is_lost. is_lost) xs
 some_lost [] = refl
 some_lost (true ∷ xs) = let few = count_by-le-length not xs in grind (arith, nat_tests)
 some_lost (false ∷ xs) =
-    ap (λ (n : ℕ). nat_lt n (length (false ∷ xs))) (sum_by-cons (λ (b : Bool). cond (not b) 1 0) false xs)
-    ∙ ap (λ (n : ℕ). nat_lt (1 + count_by not xs) n)
-    (let long : length (false ∷ xs) ≡ 1 + length xs = omega arith in long) ∙ next_lt (count_by not xs) (length xs)
-    ∙ some_lost xs
+    let one = sum_by-cons (λ (b : Bool). cond (not b) 1 0) false xs in
+    let rest = some_lost xs in
+    grind (arith, nat_tests)
 
 -- none is at first
 pub none_lost : {X : Type 0} (xs : List X) → count_by not (map (λ x. false) xs) ≡ length xs

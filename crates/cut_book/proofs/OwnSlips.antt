@@ -1,11 +1,10 @@
 -- Studies take slips of their own, all of them where every trial is held.
-use Rattle.std.proofs.Common.{◌≡◌, ℕ, ◌+◌, ◌<◌, ◌≤◌, ◌&&◌, ◌||◌, Bool, true, false, not, cond, nat_lt, refl, sym, ap, ◌∙◌}
+use Rattle.std.proofs.Common.{◌≡◌, ℕ, ◌+◌, ◌<◌, ◌≤◌, ◌||◌, Bool, true, false, cond, refl, sym, ◌∙◌}
 use Rattle.std.proofs.Common.{List, [], ◌∷◌, ◌++◌, Option, Some, None, IfSome, is_some, arith, append_assoc, append-nil}
 use Rattle.std.proofs.Common.{IsTrue}
 use Rattle.std.specs.List.{AllByRecursion}
 use Rattle.std.proofs.lemmas.Bool.Decides.{nat_tests}
 use Rattle.cut_faults.specs.declared.code.FaultCode.{FaultCode}
-use Rattle.cut_faults.specs.declared.code.FaultCode.TheVariants as code
 use Rattle.cut_lists.proofs.Intervals.{passes_at}
 use Rattle.cut_lists.proofs.Ranges.{none_passing}
 use Rattle.cut_plan.specs.Cells.{trial_count}
@@ -15,9 +14,8 @@ use Rattle.cut_plan.proofs.Every.{every-append}
 use Rattle.cut_outcome.specs.Computed.{Computed}
 use Rattle.cut_outcome.specs.declared.piece.Piece.{Piece}
 use Rattle.cut_outcome.specs.Outcome.{one_if}
-use Rattle.cut_outcome.specs.Sum.{is_piece, sum_of, trials_in}
+use Rattle.cut_outcome.specs.Sum.{is_piece}
 use Rattle.cut_ledger.specs.declared.event.Event.TheVariants as event
-use Rattle.cut_ledger.specs.declared.event.Reply as replies
 use Rattle.cut_ledger.specs.declared.event.Reply.TheVariants as reply
 use Rattle.cut_ledger.specs.declared.slip.Slip.{Slip}
 use Rattle.cut_ledger.specs.Contents.{Contents, has, is_complete, is_in, is_in_base, over_base, with_piece}
@@ -28,43 +26,45 @@ use Rattle.cut_ledger.specs.Refusals.{CanTake}
 use Rattle.cut_ledger.specs.World.{HasTrueResult, IsTrueSlip, pieces_of_slips, times_in}
 use Rattle.cut_ledger.proofs.CellLemmas.{held_at}
 use Rattle.cut_ledger.proofs.Law.{piece_within, times_more}
-use Rattle.cut_book.specs.declared.call.Answer.TheVariants.{Accepted, Stranger, Overlap, DiskFails, Broken}
+use Rattle.cut_book.specs.declared.call.Answer.TheVariants.{Accepted, DiskFails}
 use Rattle.cut_book.specs.declared.call.Call.{Call}
 use Rattle.cut_book.specs.declared.call.Call.TheVariants.{HandIn, Lose, Row}
 use Rattle.cut_book.specs.History.{Opening, IsHandedIn, IsStep, LeadsTo, accepted_slip, accepted_slips, opened_by}
-use Rattle.cut_book.specs.Kept.{AreAllOfStudy, AreOfStudy, StudiesTakeTheirOwn, TakesOwn, is_missing}
+use Rattle.cut_book.specs.Kept.{AreAllOfStudy, AreOfStudy, StudiesTakeTheirOwn, is_missing}
+use Rattle.cut_book.proofs.Legal.{kept_by, no_doubt, none_kept}
 
--- what holds of a state in which these slips were taken since the opening
-record Holds (o : Opening) (own : List Slip) (s : StudyState) : Type 0 where
-  plan : s.ledger.plan ≡ o.plan
-  journal : s.has_journal ≡ o.has_journal
+-- a true slip of a plan, of which a ledger holds no trial
+record IsFreeSlip (v : Values) (l : Contents) (slip : Slip) : Type 0 where
+  is_true : IsTrueSlip v slip
+  free : (t : ℕ) → is_in slip.piece t ≡ true → has l t ≡ false
+
+-- what holds of the parts of a state in which these slips were taken since the opening
+record HoldsOf (o : Opening) (own : List Slip) (l : Contents) (with_journal : Bool) (slips : List Slip)
+    (doubtful : Option Slip) (is_broken : Bool) : Type 0 where
+  plan : l.plan ≡ o.plan
+  journal : with_journal ≡ o.has_journal
   each : AllByRecursion (IsTrueSlip o.plan) own
-  within : (t : ℕ) → has s.ledger t ≡ true → t < trial_count o.plan
-  counts : (t : ℕ) → times_in (pieces_of_slips own) t + one_if (has (over_base o.plan o.base) t)
-      ≡ one_if (has s.ledger t)
-  doubt : IfSome s.doubtful (λ slip. IsTrueSlip o.plan slip
-      × ((t : ℕ) → is_in slip.piece t ≡ true → has s.ledger t ≡ false))
-  broken : s.broken ≡ is_some s.doubtful
-  kept : s.kept ≡ cond o.has_journal (o.base ++ own) o.base
+  within : (t : ℕ) → has l t ≡ true → t < trial_count o.plan
+  counts : (t : ℕ) → times_in (pieces_of_slips own) t + one_if (has (over_base o.plan o.base) t) ≡ one_if (has l t)
+  doubt : IfSome doubtful (IsFreeSlip o.plan l)
+  broken : is_broken ≡ is_some doubtful
+  kept : slips ≡ cond o.has_journal (o.base ++ own) o.base
+
+abbrev Holds : Opening → List Slip → StudyState → Type 0
+Holds o own s = HoldsOf o own s.ledger s.has_journal s.kept s.doubtful s.broken
 
 -- ---- results that are taken
 
-record Accepts (o : Opening) (s : StudyState) (r : Computed) : Type 0 where
-  plan : r.plan ≡ o.plan
-  piece : IsTrue (is_piece o.plan r.piece)
-  free : (t : ℕ) → is_in r.piece t ≡ true → has s.ledger t ≡ false
-
 can_take : (o : Opening) (s : StudyState) (r : Computed) → s.ledger.plan ≡ o.plan → CanTake s.ledger r
-    → IsTrue (is_piece r.plan r.piece) → Accepts o s r
-can_take o s r plan free piece = grind (arith, none_passing (has s.ledger) r.piece.first r.piece.count)
+    → IsTrue (is_piece r.plan r.piece) → IsFreeSlip o.plan s.ledger (slip_of r)
+can_take o s r plan free piece = rw (← plan, ← free.plan) (record {
+  is_true = record { piece = piece; totals = refl };
+  free = (let apart = free.apart in grind (arith, none_passing (has s.ledger) r.piece.first r.piece.count));
+})
 
 accepts : SamePlansAreEqual → (o : Opening) (s : StudyState) (r : Computed) → IsPlan o.plan → s.ledger.plan ≡ o.plan
-    → HasTrueResult (event.HandIn r) → refused_code s r ≡ None → Accepts o s r
-accepts equal o s r good plan result none =
-    grind (arith, can_take)
-
-true_slip : (o : Opening) (s : StudyState) (r : Computed) → Accepts o s r → IsTrueSlip o.plan (slip_of r)
-true_slip o s r a = record { piece = a.piece; totals = ap (λ (u : Values). sum_of u (trials_in r.piece)) a.plan }
+    → HasTrueResult (event.HandIn r) → refused_code s r ≡ None → IsFreeSlip o.plan s.ledger (slip_of r)
+accepts equal o s r good plan result none = grind (arith, can_take)
 
 -- a trial is held then where it was, or is one of the piece
 held_then : (o : Opening) (own : List Slip) (s : StudyState) (p : Piece) → Holds o own s → IsTrue (is_piece o.plan p)
@@ -73,52 +73,23 @@ held_then o own s p h piece t =
     let low = piece_within o.plan p t piece in
     grind (arith, nat_tests, h.plan, h.within t, low, held_at s.ledger.plan (λ x. has s.ledger x || is_in p x) t)
 
-taken_holds : (o : Opening) (own : List Slip) (s : StudyState) (r : Computed) → Holds o own s → Accepts o s r
-    → s.broken ≡ false → Holds o (own ++ slip_of r ∷ []) (taken s r)
-taken_holds o own s r h a unbroken =
-    let none : s.doubtful ≡ None = no_doubt s.doubtful (sym h.broken ∙ unbroken) in
+taken_holds : (o : Opening) (own : List Slip) (s : StudyState) (r : Computed) → Holds o own s
+    → IsFreeSlip o.plan s.ledger (slip_of r) → s.broken ≡ false → Holds o (own ++ slip_of r ∷ []) (taken s r)
+taken_holds o own s r h f unbroken =
+    let piece = f.is_true.piece in
+    let next = held_then o own s r.piece h piece in
     record {
       plan = h.plan;
       journal = h.journal;
-      each = every-append (IsTrueSlip o.plan) own (slip_of r ∷ []) h.each (true_slip o s r a, tt);
-      within = λ t is. within t (sym (held_then o own s r.piece h a.piece t) ∙ is);
-      counts = λ t. grind (arith, times_more own (slip_of r) t, held_then o own s r.piece h a.piece t, h.counts t, a.free t);
-      doubt = rw none tt;
+      each = every-append (IsTrueSlip o.plan) own (slip_of r ∷ []) h.each (f.is_true, tt);
+      within = λ t is. grind (arith, is, next t, h.within t, piece_within o.plan r.piece t piece);
+      counts = λ t. grind (arith, times_more own (slip_of r) t, next t, h.counts t, f.free t);
+      doubt = rw (no_doubt s.doubtful (sym h.broken ∙ unbroken)) tt;
       broken = h.broken;
-      kept = rw (h.journal, h.kept) (kept_more o.has_journal o.base own (slip_of r));
+      kept = rw (h.journal, h.kept) (sym (kept_by o.has_journal o.base own (slip_of r ∷ [])));
     }
-  where
-    no_doubt : (doubtful : Option Slip) → is_some doubtful ≡ false → doubtful ≡ None
-    no_doubt None e = refl
-    no_doubt (Some slip) e = absurd (let no : ⊥ = cc in no)
-
-    within : (t : ℕ) → (has s.ledger t || is_in r.piece t) ≡ true → t < trial_count o.plan
-    within t is = grind (arith, h.within t, piece_within o.plan r.piece t a.piece)
-
-    kept_more : (b : Bool) (base own : List Slip) (slip : Slip)
-        → cond b (cond b (base ++ own) base ++ slip ∷ []) (cond b (base ++ own) base)
-        ≡ cond b (base ++ (own ++ slip ∷ [])) base
-    kept_more true base own slip = append_assoc base own (slip ∷ [])
-    kept_more false base own slip = refl
-
--- or its append failed
-failed_holds : (o : Opening) (own : List Slip) (s : StudyState) (r : Computed) → Holds o own s → Accepts o s r
-    → Holds o own (failed s r)
-failed_holds o own s r h a = record {
-  plan = h.plan;
-  journal = h.journal;
-  each = h.each;
-  within = h.within;
-  counts = h.counts;
-  doubt = (true_slip o s r a, a.free);
-  broken = refl;
-  kept = h.kept;
-}
 
 -- ---- steps
-
-same_holds : (o : Opening) (own : List Slip) (s t : StudyState) → Holds o own s → t ≡ s → Holds o (own ++ []) t
-same_holds o own s t h same = rw (same, append-nil own) h
 
 refused_same : (found : Option FaultCode) (c : FaultCode) (s t : StudyState) → accepted_unless found ≡ reply.Refused c
     → unless_refused found s t ≡ s
@@ -129,55 +100,38 @@ accepted_none : (found : Option FaultCode) → accepted_unless found ≡ reply.A
 accepted_none None e = refl
 accepted_none (Some x) e = absurd (let no : ⊥ = cc in no)
 
--- no result is refused before its append in a state that is broken
-none_broken : (s : StudyState) (r : Computed) → refused_code s r ≡ None → s.broken ≡ false
-none_broken s r none = grind (arith, none)
-
 accepted_step : SamePlansAreEqual → (o : Opening) (own : List Slip) (s t : StudyState) (slip : Slip) (is_own : Bool)
     → IsPlan o.plan → Holds o own s → IsHandedIn s slip is_own Accepted t → Holds o (own ++ slip ∷ []) t
 accepted_step equal o own s t slip is_own good h is =
     let none : refused_code s is.result ≡ None = accepted_none _ is.answered.reply in
-    let a = accepts equal o s is.result good h.plan is.true_result none in
-    let next : t ≡ taken s is.result = is.next ∙ ap (λ found. unless_refused found s (taken s is.result)) none in
-    rw (next, is.slip_is) (taken_holds o own s is.result h a (none_broken s is.result none))
+    let unbroken : s.broken ≡ false = grind (arith, none) in
+    rw (is.next, none, is.slip_is) (taken_holds o own s is.result h
+    (accepts equal o s is.result good h.plan is.true_result none) unbroken)
 
-failed_step : SamePlansAreEqual → (o : Opening) (own : List Slip) (s t : StudyState) (slip : Slip) (is_own : Bool)
-    → IsPlan o.plan → Holds o own s → IsHandedIn s slip is_own DiskFails t → Holds o (own ++ []) t
-failed_step equal o own s t slip is_own good h is = rw (append-nil own) (by (refused_code s is.result) refl)
-  where
-    by : (found : Option FaultCode) → refused_code s is.result ≡ found → Holds o own t
-    by None none =
-        let a = accepts equal o s is.result good h.plan is.true_result none in
-        let next : t ≡ failed s is.result = is.next ∙ ap (λ found. unless_refused found s (failed s is.result)) none in
-        rw next (failed_holds o own s is.result h a)
-    by (Some c) some =
-        let same : t ≡ s = is.next ∙ ap (λ found. unless_refused found s (failed s is.result)) some in rw same h
-
-lost_step : (o : Opening) (own : List Slip) (s : StudyState) (lost : List Bool) → Holds o own s
-    → Holds o (own ++ []) (record s { lost = lost })
-lost_step o own s lost h = rw (append-nil own) (record {
+failed_step : SamePlansAreEqual → (o : Opening) (own : List Slip) (s : StudyState) (r : Computed)
+    (found : Option FaultCode) → IsPlan o.plan → Holds o own s → HasTrueResult (event.HandIn r)
+    → refused_code s r ≡ found → Holds o own (unless_refused found s (failed s r))
+failed_step equal o own s r None good h real none = record {
   plan = h.plan;
   journal = h.journal;
   each = h.each;
   within = h.within;
   counts = h.counts;
-  doubt = h.doubt;
-  broken = h.broken;
+  doubt = accepts equal o s r good h.plan real none;
+  broken = refl;
   kept = h.kept;
-})
+}
+failed_step equal o own s r (Some code) good h real some = h
 
 step_holds : SamePlansAreEqual → (o : Opening) (own : List Slip) (s t : StudyState) (call : Call) → IsPlan o.plan
     → Holds o own s → IsStep s call t → Holds o (own ++ accepted_slip call) t
 step_holds equal o own s t (HandIn slip is_own Accepted) good h is = accepted_step equal o own s t slip is_own good h is
-step_holds equal o own s t (HandIn slip is_own DiskFails) good h is = failed_step equal o own s t slip is_own good h is
-step_holds equal o own s t (HandIn slip is_own Stranger) good h is =
-    same_holds o own s t h (is.next ∙ refused_same _ _ s (taken s is.result) is.answered.reply)
-step_holds equal o own s t (HandIn slip is_own Overlap) good h is =
-    same_holds o own s t h (is.next ∙ refused_same _ _ s (taken s is.result) is.answered.reply)
-step_holds equal o own s t (HandIn slip is_own Broken) good h is =
-    same_holds o own s t h (is.next ∙ refused_same _ _ s (taken s is.result) is.answered.reply)
-step_holds equal o own s t (Lose piece) good h is = rw is.1 (lost_step o own s _ h)
-step_holds equal o own s t (Row cell is_given) good h is = same_holds o own s t h is.2
+step_holds equal o own s t (HandIn slip is_own DiskFails) good h is =
+    rw (append-nil own, is.next) (failed_step equal o own s is.result _ good h is.true_result refl)
+step_holds equal o own s t (HandIn slip is_own refused) good h is =
+    rw (append-nil own, is.next ∙ refused_same _ _ s (taken s is.result) is.answered.reply) h
+step_holds equal o own s t (Lose piece) good h is = rw (append-nil own, is.1) h
+step_holds equal o own s t (Row cell is_given) good h is = rw (append-nil own, is.2) h
 
 leads_hold : SamePlansAreEqual → (o : Opening) (own : List Slip) (s t : StudyState) (calls : List Call) → IsPlan o.plan
     → Holds o own s → LeadsTo s calls t → Holds o (own ++ accepted_slips calls) t
@@ -196,12 +150,8 @@ opened_holds o = record {
   counts = λ t. omega arith;
   doubt = tt;
   broken = refl;
-  kept = kept_first o.has_journal o.base;
+  kept = sym (none_kept o.has_journal o.base);
 }
-  where
-    kept_first : (b : Bool) (base : List Slip) → base ≡ cond b (base ++ []) base
-    kept_first true base = sym (append-nil base)
-    kept_first false base = refl
 
 -- ---- what is taken
 
@@ -211,21 +161,21 @@ taken_once : (o : Opening) (own : List Slip) (s : StudyState) → Holds o own s 
 taken_once o own s h t =
     grind (arith, nat_tests, h.within t, h.counts t, held_at o.plan (is_in_base o.base) t)
 
-doubt_once : (o : Opening) (own : List Slip) (s : StudyState) (slip : Slip) → Holds o own s → IsTrueSlip o.plan slip
-    → ((t : ℕ) → is_in slip.piece t ≡ true → has s.ledger t ≡ false) → (t : ℕ)
+doubt_once : (o : Opening) (own : List Slip) (s : StudyState) (slip : Slip) → Holds o own s
+    → IsFreeSlip o.plan s.ledger slip → (t : ℕ)
     → times_in (pieces_of_slips (own ++ slip ∷ [])) t ≤ one_if (is_missing o.plan o.base t)
-doubt_once o own s slip h is free t =
+doubt_once o own s slip h f t =
     let once = taken_once o own s h t in
-    let low = piece_within o.plan slip.piece t is.piece in
-    grind (arith, nat_tests, times_more own slip t, once, low, free t, h.counts t, held_at o.plan (is_in_base o.base) t)
+    let low = piece_within o.plan slip.piece t f.is_true.piece in
+    let base = held_at o.plan (is_in_base o.base) t in
+    grind (arith, nat_tests, times_more own slip t, once, low, f.free t, h.counts t, base)
 
 own_slips : (o : Opening) (own : List Slip) (s : StudyState) (doubtful : Option Slip) → Holds o own s
-    → IfSome doubtful (λ slip. IsTrueSlip o.plan slip × ((t : ℕ) → is_in slip.piece t ≡ true → has s.ledger t ≡ false))
-    → AreOfStudy o.plan o.base (own ++ some_slip doubtful)
+    → IfSome doubtful (IsFreeSlip o.plan s.ledger) → AreOfStudy o.plan o.base (own ++ some_slip doubtful)
 own_slips o own s None h doubt = rw (append-nil own) (record { each = h.each; once = taken_once o own s h })
-own_slips o own s (Some slip) h doubt = record {
-  each = every-append (IsTrueSlip o.plan) own (slip ∷ []) h.each (doubt.0, tt);
-  once = doubt_once o own s slip h doubt.0 doubt.1;
+own_slips o own s (Some slip) h f = record {
+  each = every-append (IsTrueSlip o.plan) own (slip ∷ []) h.each (f.is_true, tt);
+  once = doubt_once o own s slip h f;
 }
 
 held_all : (o : Opening) (own : List Slip) (s : StudyState) → Holds o own s → is_complete s.ledger ≡ true → (t : ℕ)
@@ -240,16 +190,15 @@ all_slips o own s h all t =
     grind (arith, nat_tests, h.within t, h.counts t, held, held_at o.plan (is_in_base o.base) t)
 
 no_doubt_then : (o : Opening) (own : List Slip) (s : StudyState) (doubtful : Option Slip) → Holds o own s
-    → is_complete s.ledger ≡ true → IfSome doubtful (λ slip. IsTrueSlip o.plan slip
-    × ((t : ℕ) → is_in slip.piece t ≡ true → has s.ledger t ≡ false)) → doubtful ≡ None
+    → is_complete s.ledger ≡ true → IfSome doubtful (IsFreeSlip o.plan s.ledger) → doubtful ≡ None
 no_doubt_then o own s None h all doubt = refl
-no_doubt_then o own s (Some slip) h all doubt =
+no_doubt_then o own s (Some slip) h all f =
     let p : Piece = slip.piece in
-    let some : 0 < p.count = (let is = doubt.0.piece in grind (arith, nat_tests, is)) in
+    let is = f.is_true.piece in
+    let some : 0 < p.count = grind (arith, nat_tests, is) in
     let here : is_in p p.first ≡ true = grind (arith, nat_tests, some) in
-    let low = piece_within o.plan p p.first doubt.0.piece here in
-    let held = held_all o own s h all p.first low in
-    let free = doubt.1 p.first here in
+    let held = held_all o own s h all p.first (piece_within o.plan p p.first is here) in
+    let free = f.free p.first here in
     absurd (let no : ⊥ = cc in no)
 
 pub take_their_own : SamePlansAreEqual → StudiesTakeTheirOwn

@@ -38,8 +38,8 @@ pub resumable : {D : Type 0} (log_of : D → DiskLog) (journal : Option (Journal
     → FollowsState log_of journal s
     → LeavesResumed log_of journal journal (after s (HandInDiskFails r))
 resumable log_of journal log s r between within is sound = rw is
-    (λ of good. resumable_by log.plan log.count log.doubtful (on (log_of log.disk)) s r (refusal_of s.ledger r) refl between
-    within (sound good) (of good))
+    (λ of good. resumable_by log.plan log.count log.doubtful (on (log_of log.disk)) s r (refusal_of s.ledger r) refl
+    between within (sound good) (of good))
 
 -- and a run that is resumed as it is
 pub resumed_now : {D : Type 0} (log_of : D → DiskLog) (journal : Option (JournalValue D))
@@ -54,9 +54,10 @@ resumed_now log_of journal log s between is sound = rw is
 -- in an append of a result that the ledger takes
 pub resumed_append : {D : Type 0} (log_of : D → DiskLog) (journal : Option (JournalValue D))
     (old new : JournalValue D) (s : StudyState) (r : Computed) → CrashesInAppends → journal ≡ Some old
-    → (IsKnown (log_of old.disk) → Throughout (on (log_of old.disk)) (on (log_of new.disk))
-    (ReadsAs old.plan (kept_slips old.plan old.count (on (log_of old.disk))) (Some (unwrap_or old.doubtful (slip_of r)))))
+    → (IsKnown (log_of old.disk) → Throughout (on (log_of old.disk)) (on (log_of new.disk)) (ReadsAs old.plan
+    (kept_slips old.plan old.count (on (log_of old.disk))) (Some (unwrap_or old.doubtful (slip_of r)))))
     → refusal_of s.ledger r ≡ None → FollowsState log_of journal s
     → LeavesResumed log_of journal (Some new) (after s (HandInDiskFails r))
 resumed_append log_of journal old new s r within is moments fine = rw is
-    (λ of good. within old.plan old.count old.doubtful (on (log_of old.disk)) (on (log_of new.disk)) s r (of good) fine (moments good))
+    (λ of good. within old.plan old.count old.doubtful (on (log_of old.disk)) (on (log_of new.disk)) s r (of good) fine
+    (moments good))

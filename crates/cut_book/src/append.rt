@@ -1,9 +1,9 @@
-ghost use Rattle.std.specs.Prelude.{◌≡◌, None, Some, IfSome};
+ghost use Rattle.std.specs.Prelude.{◌≡◌, None, Some, IfSome, IsErr, IsSome};
 ghost use Rattle.cut_ledger.specs.Machine.{StudyState, after, slip_of};
 ghost use Rattle.cut_ledger.specs.Refusals.{refusal_of};
 ghost use Rattle.cut_ledger.specs.declared.event.Event.TheVariants as event;
 ghost use Rattle.cut_book.specs.Book.{JournalAfter, faults_after, failures_of, FollowsState};
-ghost use Rattle.cut_book.specs.inside.Book.{append_answer};
+ghost use Rattle.cut_book.specs.inside.Book.{IsAppended, append_answer, doubt_after};
 ghost use Rattle.cut_book.specs.Book.{LeavesResumed, IsAsKnown};
 ghost use Rattle.cut_book.specs.History.{event_of};
 
@@ -18,6 +18,9 @@ pub(crate) fn append<D: Disk>(
 ) -> Result<(), DiskFault>
     requires own { IfSome journal.old (λ log. (log.plan ≡ offered.now.plan) × (log.doubtful ≡ None)) }
     ensures journal { JournalAfter (append_answer result) (slip_of offered.now) journal.old journal.new }
+    ensures appended { IsAppended (doubt_after (append_answer result) (slip_of offered.now)) offered.now.plan
+        journal.old journal.new }
+    ensures failed { IsErr result → IsSome journal.old }
     ensures follows { (s : StudyState) → refusal_of s.ledger offered.now ≡ None
         → FollowsState D.log journal.old s
         → FollowsState D.log journal.new (after s (event_of (append_answer result) offered.now)) }

@@ -6,7 +6,6 @@ ghost use Rattle.std.specs.List.{list_any};
 ghost use Rattle.cut_ledger.specs.declared.lines.line.TheConstants.{LONGEST_LINE};
 ghost use Rattle.cut_faults.specs.Failures.{one_more};
 ghost use Rattle.cut_plan.specs.Cells.{cells_of};
-ghost use Rattle.cut_plan.specs.Plan.{IsPlan};
 ghost use Rattle.cut_outcome.specs.Sum.{is_piece};
 ghost use Rattle.cut_disks.specs.State.{IsImage};
 ghost use Rattle.cut_disks.specs.Log.{IsKnown, on};
@@ -14,7 +13,8 @@ ghost use Rattle.cut_ledger.specs.Machine.{opened, reply_to, after, slip_of};
 ghost use Rattle.cut_ledger.specs.Contents.{over_base};
 ghost use Rattle.cut_ledger.specs.Gaps.{pieces_of};
 ghost use Rattle.cut_ledger.specs.Slips.{AreGood};
-ghost use Rattle.cut_ledger.specs.Refusals.{CanTake, is_same_plan};
+ghost use Rattle.cut_ledger.specs.World.{HasTrueResult};
+ghost use Rattle.cut_ledger.specs.Refusals.{is_same_plan};
 ghost use Rattle.cut_ledger.specs.declared.event.Event.TheVariants as event;
 ghost use Rattle.cut_ledger.specs.declared.event.Reply.TheVariants as reply;
 ghost use Rattle.cut_faults.specs.declared.code.FaultCode.TheVariants as code;
@@ -26,7 +26,7 @@ ghost use Rattle.cut_book.specs.History.{opened_by, LeadsTo};
 ghost use Rattle.cut_book.specs.Book.{BookValue, opening_of, failures_of, answer_of, HandsIn, IsHandInFault, AsksRow};
 ghost use Rattle.cut_book.specs.Book.{IsOpeningFault, faults_after, FollowsState, LeavesResumed};
 ghost use Rattle.cut_book.specs.Kept.{disk_start_of, IsLeftWith};
-ghost use Rattle.cut_book.specs.inside.Book.{refusal_in};
+ghost use Rattle.cut_book.specs.inside.Book.{IsFree, IsRefused};
 ghost use Rattle.cut_book.specs.Book.{IsAsKnown, failed_since};
 
 use crate::append::append;
@@ -172,13 +172,13 @@ impl<D: Disk> Book<D> {
         self.ledger.reserve(cell)?;
         match append(&mut self.journal, offered) {
             Ok(()) => {
-                let call = call_of(self.ledger.plan(), offered, Answer::Accepted);
+                let call = call_of(&self.ledger, offered, Answer::Accepted);
                 self.history.push(call);
                 let _ = self.ledger.take(offered);
                 Ok(())
             }
             Err(_) => {
-                let call = call_of(self.ledger.plan(), offered, Answer::DiskFails);
+                let call = call_of(&self.ledger, offered, Answer::DiskFails);
                 self.history.push(call);
                 self.broken = true;
                 Err(BookFault::Checkpoint)
@@ -320,8 +320,8 @@ impl<D: Disk> Book<D> {
     /// How a result is answered that is refused before its append: an append has failed, or the ledger
     /// refuses it.
     fn refusal(&self, offered: &PieceResult) -> Option<Answer>
-        ensures value { result ≡ refusal_in self.now.state offered.now }
-        ensures none { IfNone result (CanTake self.now.state.ledger offered.now) }
+        ensures some { IfSome result (IsRefused self.now.state offered.now) }
+        ensures none { IfNone result (IsFree self.now.state offered.now) }
     {
         if self.broken {
             return Some(Answer::Broken);
@@ -335,7 +335,7 @@ impl<D: Disk> Book<D> {
 
     /// Adds a result that is refused before its append to the history.
     fn refuse(&mut self, offered: &PieceResult, answer: Answer) -> Result<(), BookFault>
-        requires { refusal_in self.old.state offered.now ≡ Some answer }
+        requires { IsRefused self.old.state offered.now answer }
         ensures answer { HandsIn (answer_of result self.old.state) offered.now self.old self.new }
         ensures only_faults { IfErr result IsHandInFault }
         ensures refused { IsErr result }
@@ -350,7 +350,7 @@ impl<D: Disk> Book<D> {
     {
         self.is_resumable(offered);
         self.history.reserve()?;
-        let call = call_of(self.ledger.plan(), offered, answer);
+        let call = call_of(&self.ledger, offered, answer);
         self.history.push(call);
         answer.into_result()
     }
@@ -422,15 +422,15 @@ fn failures<D: Disk>(journal: &Option<Journal<D>>) -> u64
     }
 }
 
-/// The call of a result, with an answer, of a book of this plan.
-fn call_of(plan: &Plan, offered: &PieceResult, answer: Answer) -> Call
-    ensures call { result ≡ call.HandIn (slip_of offered.now) (is_same_plan plan.now offered.now.plan) answer }
-    ensures plan { IsPlan offered.now.plan }
-    ensures piece { IsTrue (is_piece offered.now.plan offered.now.piece) }
+/// The call of a result, with an answer, of a book with this ledger.
+fn call_of(ledger: &Ledger, offered: &PieceResult, answer: Answer) -> Call
+    ensures call { result ≡ call.HandIn (slip_of offered.now)
+        (is_same_plan ledger.now.contents.plan offered.now.plan) answer }
+    ensures real { HasTrueResult (event.HandIn offered.now) }
 {
     Call::HandIn {
         slip: slip_of(offered),
-        is_own: plan.same(offered.plan()),
+        is_own: ledger.plan().same(offered.plan()),
         answer,
     }
 }

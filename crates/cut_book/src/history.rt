@@ -2,7 +2,7 @@ ghost use Rattle.std.specs.Prelude.{◌≡◌, ◌+◌, ◌-◌, ◌<◌, ◌≤
 ghost use Rattle.cut_plan.specs.Cells.{trial_count};
 ghost use Rattle.cut_plan.specs.Plan.{IsPlan};
 ghost use Rattle.cut_book.specs.History.{IsLegalHistory, accepted_in};
-ghost use Rattle.cut_book.specs.inside.HistoryInside.{lost_call};
+ghost use Rattle.cut_book.specs.inside.HistoryInside.{IsReserved, Noted, count_in, lost_call};
 ghost use Rattle.cut_book.specs.declared.call.Call.TheVariants as call;
 
 use crate::{Answer, Call};
@@ -115,9 +115,7 @@ impl History {
 
     /// Makes room for a call that is no loss.
     pub(crate) fn reserve(&mut self) -> Result<(), AllocError>
-        ensures opening { self.new.opening ≡ self.old.opening }
-        ensures calls { self.new.calls ≡ self.old.calls }
-        ensures room { self.new.room ≡ self.old.room }
+        ensures reserved { IsReserved self.old self.new }
         ensures ok { OnOk result (self.new.has_place ≡ true) }
     {
         self.entries.reserve(1)
@@ -127,8 +125,7 @@ impl History {
     pub(crate) fn push(&mut self, call: Call)
         requires place { self.old.has_place ≡ true }
         requires legal { IsLegalHistory self.old.opening (self.old.calls ++ call ∷ []) }
-        ensures opening { self.new.opening ≡ self.old.opening }
-        ensures calls { self.new.calls ≡ self.old.calls ++ call ∷ [] }
+        ensures noted { Noted call self.old self.new }
         ensures room { self.new.room ≡ self.old.room }
     {
         let losses = self.losses.len();
@@ -139,8 +136,7 @@ impl History {
     pub(crate) fn lose(&mut self, piece: u32)
         requires room { 0 < self.old.room }
         requires legal { IsLegalHistory self.old.opening (self.old.calls ++ call.Lose piece ∷ []) }
-        ensures opening { self.new.opening ≡ self.old.opening }
-        ensures calls { self.new.calls ≡ self.old.calls ++ call.Lose piece ∷ [] }
+        ensures noted { Noted (call.Lose piece) self.old self.new }
         ensures room { self.old.room ≤ self.new.room + 1 }
     {
         self.losses.push_reserved(piece);
@@ -161,7 +157,7 @@ fn push_losses(calls: &mut Vec<Call>, losses: &[u32]) -> Result<(), AllocError>
 
 /// How many trials a call added to a ledger.
 fn accepted_count(call: Call) -> u64
-    ensures { result ≡ accepted_in (call ∷ []) }
+    ensures { result ≡ count_in call }
 {
     match call {
         Call::HandIn {

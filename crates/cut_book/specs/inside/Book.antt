@@ -1,38 +1,56 @@
 -- What only the crate's own clauses and proofs cite, beside specs/Book.antt.
-use Rattle.std.specs.Prelude.{◌≡◌, ◌++◌, ◌≤◌, ℕ, Bool, false, not, List, length, count_by}
-use Rattle.std.specs.Prelude.{Option, Some, None, IsTrue, IfSome, All, is_some, option_map, if◌then◌else◌, Result, Ok}
-use Rattle.std.specs.Prelude.{Err}
+use Rattle.std.specs.Prelude.{◌≡◌, ◌++◌, ◌≤◌, ℕ, Bool, true, false, not, List, [], length, count_by}
+use Rattle.std.specs.Prelude.{Option, Some, None, IsTrue, IsErrOf, IfSome, All, is_some, if◌then◌else◌, Result, Ok, Err}
+use Rattle.cut_plan.specs.Values.{Values}
 use Rattle.cut_outcome.specs.Computed.{Computed}
 use Rattle.cut_outcome.specs.declared.piece.Piece.{Piece}
 use Rattle.cut_outcome.specs.Sum.{is_piece}
 use Rattle.cut_ledger.specs.declared.slip.Slip.{Slip}
-use Rattle.cut_ledger.specs.declared.offer_fault.OfferFault.{OfferFault}
-use Rattle.cut_ledger.specs.declared.offer_fault.OfferFault.TheVariants as ledger
 use Rattle.cut_ledger.specs.Contents.{Contents}
-use Rattle.cut_ledger.specs.Machine.{StudyState}
-use Rattle.cut_ledger.specs.Refusals.{refusal_of}
-use Rattle.cut_disks.specs.State.{DiskState}
+use Rattle.cut_ledger.specs.Machine.{StudyState, after, refused_code}
+use Rattle.cut_ledger.specs.Refusals.{CanTake, refusal_of}
 use Rattle.cut_disks.specs.Log.{DiskLog}
 use Rattle.cut_journal.specs.Journal.{JournalValue}
 use Rattle.cut_book.specs.declared.call.Answer.{Answer}
-use Rattle.cut_book.specs.declared.call.Answer.TheVariants.{Accepted, Stranger, Overlap, DiskFails, Broken}
-use Rattle.cut_book.specs.History.{HistoryValue, opened_by, LeadsTo, accepted_slips}
+use Rattle.cut_book.specs.declared.call.Answer.TheVariants.{Accepted, DiskFails}
+use Rattle.cut_book.specs.declared.fault.BookFault.TheVariants as fault
+use Rattle.cut_book.specs.History.{HistoryValue, IsAnswer, LeadsTo, accepted_slip, accepted_slips, event_of, opened_by}
 use Rattle.cut_book.specs.Kept.{doubtful_in}
-use Rattle.cut_book.specs.Book.{BookValue, failures_of, failed_since, FollowsState}
+use Rattle.cut_book.specs.Book.{BookValue, FollowsState, answer_of, failed_since, failures_of, faults_after}
+use Rattle.cut_book.specs.Book.{hand_in_of, returned}
 
--- the answer that a refusal of the ledger is
-abbrev pub answer_to : OfferFault → Answer
-answer_to ledger.Stranger = Stranger
-answer_to fault = Overlap
+-- a result is refused before its append with this answer, which is a step that changes nothing
+pub record IsRefused (s : StudyState) (r : Computed) (a : Answer) : Type 0 where
+  pub answered : IsAnswer s r a
+  pub state : after s (event_of a r) ≡ s
+  pub reported : answer_of (returned a) s ≡ Some a
+  pub slips : accepted_slip (hand_in_of s r a) ≡ []
+  pub broken : IsErrOf (returned a) fault.Checkpoint → s.broken ≡ true
+  pub same_faults : (n : ℕ) → faults_after (Some a) n ≡ n
 
--- the answer to a result that is refused before its append, if it is
-abbrev pub refusal_in : StudyState → Computed → Option Answer
-refusal_in s r = if s.broken then Some Broken else option_map answer_to (refusal_of s.ledger r)
+-- a result is not refused: no append has failed, and the ledger takes it
+pub record IsFree (s : StudyState) (r : Computed) : Type 0 where
+  pub unbroken : s.broken ≡ false
+  pub fine : refusal_of s.ledger r ≡ None
+  pub code : refused_code s r ≡ None
+  pub fits : CanTake s.ledger r
 
 -- the answer to a result whose slip was appended, or was not
 abbrev pub append_answer : {T E : Type 0} → Result T E → Answer
 append_answer (Ok done) = Accepted
 append_answer (Err failed) = DiskFails
+
+-- the slip that is doubtful after it, if one is
+abbrev pub doubt_after : Answer → Slip → Option Slip
+doubt_after DiskFails slip = Some slip
+doubt_after answer slip = None
+
+-- a journal after an append, if there is one: it is of this plan, with this slip doubtful
+pub record IsAppended {D : Type 0} (doubtful : Option Slip) (v : Values) (old new : Option (JournalValue D)) : Type 0
+  where
+    pub some : is_some new ≡ is_some old
+    pub plan : IfSome new (λ log. log.plan ≡ v)
+    pub doubt : doubtful_in new ≡ doubtful
 
 -- the slips that are kept: with a journal those of the base, and those that were accepted since
 abbrev pub kept_in : HistoryValue → List Slip

@@ -1,11 +1,13 @@
 -- What of a `History` contracts see, and what is always true of it.
-use Rattle.std.specs.Prelude.{ℕ, ◌-◌, ◌≤◌, List, [], ◌∷◌, ◌++◌, map, take, drop, length, nat_lt, vec_len, vec_capacity}
+use Rattle.std.specs.Prelude.{◌≡◌, ℕ, ◌-◌, ◌≤◌, List, [], ◌∷◌, ◌++◌, map, take, drop, length, nat_lt, vec_len}
+use Rattle.std.specs.Prelude.{vec_capacity}
+use Rattle.std.specs.List.{sum_by}
 use Rattle.cut_plan.specs.Plan.{IsPlan}
 use Rattle.cut_book.specs.declared.call.Call.{Call}
 use Rattle.cut_book.specs.declared.call.Call.TheVariants.{Lose}
 use Rattle.cut_book.specs.declared.history.Entry.{Entry}
 use Rattle.cut_book.specs.declared.history.History.TheInside.{Inside}
-use Rattle.cut_book.specs.History.{HistoryValue, IsLegalHistory}
+use Rattle.cut_book.specs.History.{HistoryValue, IsLegalHistory, accepted_slip}
 
 abbrev pub lost_call : ℕ → Call
 lost_call piece = Lose piece
@@ -39,3 +41,22 @@ pub record IsHistory (h : Inside) : Type 0 where
   pub plan : IsPlan (course_of h).opening.plan
   pub legal : IsLegalHistory (course_of h).opening (course_of h).calls
   pub order : AreInOrder 0 h.entries.items (length h.losses.items)
+
+-- how many trials a call added to a ledger
+abbrev pub count_in : Call → ℕ
+count_in call = sum_by (λ slip. slip.piece.count) (accepted_slip call)
+
+-- and the calls of entries together
+abbrev pub entries_count : List Entry → ℕ
+entries_count es = sum_by (λ e. count_in e.call) es
+
+-- a history after room was made for a call: the same
+pub record IsReserved (old new : HistoryValue) : Type 0 where
+  pub opening : new.opening ≡ old.opening
+  pub calls : new.calls ≡ old.calls
+  pub room : new.room ≡ old.room
+
+-- a history after a call: its opening is the same, and the call is its last
+pub record Noted (call : Call) (old new : HistoryValue) : Type 0 where
+  pub opening : new.opening ≡ old.opening
+  pub calls : new.calls ≡ old.calls ++ call ∷ []

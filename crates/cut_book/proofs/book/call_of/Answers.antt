@@ -6,6 +6,6 @@ use Rattle.cut_ledger.proofs.RefusalLemmas.{same_plan}
 
 pub returns-clause-call : goal.returns-clause-call
 returns-clause-call c =
-    let same = same_plan c.args.plan.now c.plan.result.now c.same.result c.same.ensures.texts in
-    rw (c.slip_of.ensures.slip) (ap (λ (b : Bool). HandIn (slip_of c.args.offered.now) b
-    c.args.answer) (rw c.plan.ensures at (sym same)))
+    let same = same_plan c.plan.result.now c.plan-2.result.now c.same.result c.same.ensures.texts in
+    rw (c.slip_of.ensures.slip, ← c.plan.ensures.value) (ap (λ (b : Bool). HandIn (slip_of c.args.offered.now) b
+    c.args.answer) (rw c.plan-2.ensures at (sym same)))

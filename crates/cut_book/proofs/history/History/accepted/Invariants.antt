@@ -1,7 +1,7 @@
-use Rattle.std.proofs.Common.{◌≡◌, map, take}
-use Rattle.cut_book.specs.declared.history.Entry.{Entry}
-use Rattle.cut_book.specs.History.{accepted_in}
+use Rattle.std.proofs.Common.{◌≡◌, ◌+◌, drop}
+use Rattle.cut_book.specs.inside.HistoryInside.{entries_count}
 use Rattle.cut_book.proofs.history.History.accepted.Given as goal
 
+-- with those of what comes after them, the trials so far are all
 abbrev pub invariant-loop-entry : goal.invariant-loop-entry
-invariant-loop-entry l = l.sum ≡ accepted_in (take l.entry-index (map (λ (e : Entry). e.call) l.entry-items))
+invariant-loop-entry l = l.sum + entries_count (drop l.entry-index l.entry-items) ≡ entries_count l.entry-items

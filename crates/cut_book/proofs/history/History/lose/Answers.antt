@@ -1,4 +1,4 @@
-use Rattle.std.proofs.Common.{◌≡◌, ◌+◌, ◌++◌, ◌∷◌, [], List, ℕ, length, length-append}
+use Rattle.std.proofs.Common.{◌≡◌, ◌+◌, ◌++◌, ◌∷◌, [], List, ℕ, length, length-append, refl}
 use Rattle.cut_book.specs.declared.history.Entry.{Entry}
 use Rattle.cut_book.proofs.Merged.{one_loss_more, order_of_one_loss_more}
 use Rattle.cut_book.proofs.history.History.lose.Goals as goal
@@ -16,6 +16,8 @@ invariant_of-self c =
           (order_of_one_loss_more 0 (length ls) es c.self.invariant.order);
     }
 
-pub returns-clause-calls : goal.returns-clause-calls
-returns-clause-calls c = rw (← c.self.view_is, c.push_reserved.ensures.items)
-    (one_loss_more 0 c.self.inside.entries.items c.self.inside.losses.items c.args.piece c.self.invariant.order)
+pub returns-clause-noted : goal.returns-clause-noted
+returns-clause-noted c = rw (← c.self.view_is, c.push_reserved.ensures.items) (record {
+  opening = refl;
+  calls = one_loss_more 0 c.self.inside.entries.items c.self.inside.losses.items c.args.piece c.self.invariant.order;
+})

@@ -20,7 +20,9 @@ invariant_of-self c =
           (order_of_one_entry_more 0 (length ls) es c.args.call c.self.invariant.order);
     }
 
-pub returns-clause-calls : goal.returns-clause-calls
-returns-clause-calls c =
-    rw (← c.self.view_is, c.push_reserved.ensures.items, c.len-losses.ensures, c.self.inside.losses.ok.0)
-    (one_entry_more 0 c.self.inside.entries.items c.self.inside.losses.items c.args.call c.self.invariant.order)
+pub returns-clause-noted : goal.returns-clause-noted
+returns-clause-noted c = record {
+  opening = rw (← c.self.view_is);
+  calls = rw (← c.self.view_is, c.push_reserved.ensures.items, c.len-losses.ensures, c.self.inside.losses.ok.0)
+      (one_entry_more 0 c.self.inside.entries.items c.self.inside.losses.items c.args.call c.self.invariant.order);
+}
