@@ -29,7 +29,7 @@ use Rattle.cut_ledger.proofs.Law.{piece_within, times_more}
 use Rattle.cut_book.specs.declared.call.Answer.TheVariants.{Accepted, DiskFails}
 use Rattle.cut_book.specs.declared.call.Call.{Call}
 use Rattle.cut_book.specs.declared.call.Call.TheVariants.{HandIn, Lose, Row}
-use Rattle.cut_book.specs.History.{Opening, IsHandedIn, IsStep, LeadsTo, accepted_slip, accepted_slips, opened_by}
+use Rattle.cut_book.specs.History.{Opening, IsStep, LeadsTo, accepted_slip, accepted_slips, opened_by}
 use Rattle.cut_book.specs.Kept.{AreAllOfStudy, AreOfStudy, StudiesTakeTheirOwn, is_missing}
 use Rattle.cut_book.proofs.Legal.{kept_by, no_doubt, none_kept}
 
@@ -96,18 +96,6 @@ refused_same : (found : Option FaultCode) (c : FaultCode) (s t : StudyState) →
 refused_same None c s t e = absurd (let no : ⊥ = cc in no)
 refused_same (Some x) c s t e = refl
 
-accepted_none : (found : Option FaultCode) → accepted_unless found ≡ reply.Accepted → found ≡ None
-accepted_none None e = refl
-accepted_none (Some x) e = absurd (let no : ⊥ = cc in no)
-
-accepted_step : SamePlansAreEqual → (o : Opening) (own : List Slip) (s t : StudyState) (slip : Slip) (is_own : Bool)
-    → IsPlan o.plan → Holds o own s → IsHandedIn s slip is_own Accepted t → Holds o (own ++ slip ∷ []) t
-accepted_step equal o own s t slip is_own good h is =
-    let none : refused_code s is.result ≡ None = accepted_none _ is.answered.reply in
-    let unbroken : s.broken ≡ false = grind (arith, none) in
-    rw (is.next, none, is.slip_is) (taken_holds o own s is.result h
-    (accepts equal o s is.result good h.plan is.true_result none) unbroken)
-
 failed_step : SamePlansAreEqual → (o : Opening) (own : List Slip) (s : StudyState) (r : Computed)
     (found : Option FaultCode) → IsPlan o.plan → Holds o own s → HasTrueResult (event.HandIn r)
     → refused_code s r ≡ found → Holds o own (unless_refused found s (failed s r))
@@ -125,7 +113,11 @@ failed_step equal o own s r (Some code) good h real some = h
 
 step_holds : SamePlansAreEqual → (o : Opening) (own : List Slip) (s t : StudyState) (call : Call) → IsPlan o.plan
     → Holds o own s → IsStep s call t → Holds o (own ++ accepted_slip call) t
-step_holds equal o own s t (HandIn slip is_own Accepted) good h is = accepted_step equal o own s t slip is_own good h is
+step_holds equal o own s t (HandIn slip is_own Accepted) good h is =
+    let none : refused_code s is.result ≡ None = grind (arith, is.answered.reply) in
+    let unbroken : s.broken ≡ false = grind (arith, none) in
+    rw (is.next, none, is.slip_is)
+    (taken_holds o own s is.result h (accepts equal o s is.result good h.plan is.true_result none) unbroken)
 step_holds equal o own s t (HandIn slip is_own DiskFails) good h is =
     rw (append-nil own, is.next) (failed_step equal o own s is.result _ good h is.true_result refl)
 step_holds equal o own s t (HandIn slip is_own refused) good h is =

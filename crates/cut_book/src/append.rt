@@ -12,6 +12,7 @@ use cut_journal::{Journal, laws};
 use cut_outcome::PieceResult;
 
 /// Appends the slip of a result to a journal, if there is one. Fails if the disk does.
+#[tactic(auto, using(crate::proofs::Resumed::resumed_append))]
 pub(crate) fn append<D: Disk>(
     journal: &mut Option<Journal<D>>,
     offered: &PieceResult,

@@ -7,6 +7,3 @@ invariant_of-result c = record {
   legal = rw (c.new.ensures.items, c.in_ok-with_capacity.ensures.items) (_, refl);
   order = rw c.new.ensures.items (omega arith);
 }
-
-pub returns-clause-calls : goal.returns-clause-calls
-returns-clause-calls c = rw (c.new.ensures.items, c.in_ok-with_capacity.ensures.items)
