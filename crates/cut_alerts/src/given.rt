@@ -7,28 +7,88 @@ ghost use Rattle.cut_alerts.specs.Given.{given_role};
 use crate::Role;
 use std::alloc::{AllocError, Global};
 
-/// Whether lists give each of the first `nodes` processes one role.
-pub(crate) fn are_legal(
-    nodes: u16,
-    crashed: &[u16],
-    deaf: &[u16],
-    liars: &[u16],
-    links: &[(u16, u16)],
-) -> bool
-    ensures { result ≡ is_legal nodes (crashed.now ++ deaf.now) liars.now links.now }
-{
-    are_targets(nodes, crashed, deaf)
-        && are_below(nodes, liars)
-        && are_sources(nodes, links)
-        && are_named_once(nodes, crashed, deaf, liars, links)
-        && are_links(nodes, links)
+/// Lists of the processes that are not healthy.
+#[derive(Clone, Copy)]
+pub(crate) struct GivenLists<'a> {
+    /// The targets that have crashed.
+    pub crashed: &'a [u16],
+    /// The targets that are deaf.
+    pub deaf: &'a [u16],
+    /// The liars.
+    pub liars: &'a [u16],
+    /// The cut links, each from its source to another process.
+    pub links: &'a [(u16, u16)],
 }
 
-/// Whether the crashed and the deaf are all of the first `nodes` processes.
-fn are_targets(nodes: u16, crashed: &[u16], deaf: &[u16]) -> bool
-    ensures { result ≡ are_below nodes (crashed.now ++ deaf.now) }
-{
-    are_below(nodes, crashed) && are_below(nodes, deaf)
+impl GivenLists<'_> {
+    /// Whether they give each of the first `nodes` processes one role.
+    pub(crate) fn are_legal(&self, nodes: u16) -> bool
+        ensures { result ≡ is_legal nodes (self.now.crashed.now ++ self.now.deaf.now) self.now.liars.now
+            self.now.links.now }
+    {
+        self.have_targets_below(nodes)
+            && are_below(nodes, self.liars)
+            && are_sources(nodes, self.links)
+            && self.name_each_once(nodes)
+            && are_links(nodes, self.links)
+    }
+
+    /// Whether the crashed and the deaf are all of the first `nodes` processes.
+    fn have_targets_below(&self, nodes: u16) -> bool
+        ensures { result ≡ are_below nodes (self.now.crashed.now ++ self.now.deaf.now) }
+    {
+        are_below(nodes, self.crashed) && are_below(nodes, self.deaf)
+    }
+
+    /// Whether none of the first `nodes` processes is named twice.
+    fn name_each_once(&self, nodes: u16) -> bool
+        ensures { result ≡ are_named_once nodes (self.now.crashed.now ++ self.now.deaf.now) self.now.liars.now
+            self.now.links.now }
+    {
+        (0..nodes).all(|process| self.name_once(process))
+    }
+
+    /// Whether a process is named at most once.
+    fn name_once(&self, process: u16) -> bool
+        ensures { result ≡ nat_le (times_named (self.now.crashed.now ++ self.now.deaf.now) self.now.liars.now
+            self.now.links.now process) 1 }
+    {
+        let as_target = times_in(process, self.crashed).saturating_add(times_in(
+            process, self.deaf,
+        ));
+        let as_liar = times_in(process, self.liars);
+        let as_source = times_as_source(process, self.links);
+        as_target.saturating_add(as_liar).saturating_add(as_source) <= 1
+    }
+
+    /// The roles that they give, if they are legal.
+    pub(crate) fn roles(&self, alloc: Global, nodes: u16) -> Result<Vec<Role>, AllocError>
+        ensures { IfOk result (λ roles. roles.items ≡ map (λ p. given_role self.now.crashed.now self.now.deaf.now
+            self.now.liars.now self.now.links.now p) (range_with_len 0 nodes)) }
+    {
+        (0..nodes)
+            .map(|process| self.role_of(process))
+            .collect(alloc)
+    }
+
+    /// The role that they give a process.
+    fn role_of(&self, process: u16) -> Role
+        ensures { result ≡ given_role self.now.crashed.now self.now.deaf.now self.now.liars.now self.now.links.now
+            process }
+    {
+        if self.crashed.contains(&process) {
+            Role::Crashed
+        } else if self.deaf.contains(&process) {
+            Role::Deaf
+        } else if self.liars.contains(&process) {
+            Role::Liar
+        } else {
+            match link_from(self.links, process) {
+                Some((_, to)) => Role::LinkSource(to),
+                None => Role::Healthy,
+            }
+        }
+    }
 }
 
 /// Whether these are all of the first `nodes` processes.
@@ -52,36 +112,6 @@ fn are_links(nodes: u16, links: &[(u16, u16)]) -> bool
     links.iter().all(|(from, to)| *to < nodes && *from != *to)
 }
 
-/// Whether none of the first `nodes` processes is named twice.
-fn are_named_once(
-    nodes: u16,
-    crashed: &[u16],
-    deaf: &[u16],
-    liars: &[u16],
-    links: &[(u16, u16)],
-) -> bool
-    ensures { result ≡ are_named_once nodes (crashed.now ++ deaf.now) liars.now links.now }
-{
-    (0..nodes).all(|process| is_named_once(process, crashed, deaf, liars, links))
-}
-
-/// Whether a process is named at most once.
-fn is_named_once(
-    process: u16,
-    crashed: &[u16],
-    deaf: &[u16],
-    liars: &[u16],
-    links: &[(u16, u16)],
-) -> bool
-    ensures { result
-        ≡ nat_le (times_named (crashed.now ++ deaf.now) liars.now links.now process) 1 }
-{
-    let as_target = times_in(process, crashed).saturating_add(times_in(process, deaf));
-    let as_liar = times_in(process, liars);
-    let as_source = times_as_source(process, links);
-    as_target.saturating_add(as_liar).saturating_add(as_source) <= 1
-}
-
 /// How often a process stands in a list.
 fn times_in(process: u16, processes: &[u16]) -> usize
     ensures { result ≡ count_by (λ other. other == process) processes.now }
@@ -94,47 +124,6 @@ fn times_as_source(process: u16, links: &[(u16, u16)]) -> usize
     ensures { result ≡ count_by (λ l. l.0 == process) links.now }
 {
     links.iter().filter(|(from, _)| *from == process).count()
-}
-
-/// The roles that legal lists give.
-pub(crate) fn given_roles(
-    alloc: Global,
-    nodes: u16,
-    crashed: &[u16],
-    deaf: &[u16],
-    liars: &[u16],
-    links: &[(u16, u16)],
-) -> Result<Vec<Role>, AllocError>
-    ensures { IfOk result (λ roles. roles.items
-        ≡ map (λ p. given_role crashed.now deaf.now liars.now links.now p) (range_with_len 0 nodes)) }
-{
-    (0..nodes)
-        .map(|process| given_role(process, crashed, deaf, liars, links))
-        .collect(alloc)
-}
-
-/// The role that lists give a process.
-fn given_role(
-    process: u16,
-    crashed: &[u16],
-    deaf: &[u16],
-    liars: &[u16],
-    links: &[(u16, u16)],
-) -> Role
-    ensures { result ≡ given_role crashed.now deaf.now liars.now links.now process }
-{
-    if crashed.contains(&process) {
-        Role::Crashed
-    } else if deaf.contains(&process) {
-        Role::Deaf
-    } else if liars.contains(&process) {
-        Role::Liar
-    } else {
-        match link_from(links, process) {
-            Some((_, to)) => Role::LinkSource(to),
-            None => Role::Healthy,
-        }
-    }
 }
 
 /// The link of which a process is the source.

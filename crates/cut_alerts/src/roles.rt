@@ -5,7 +5,7 @@ ghost use Rattle.cut_alerts.specs.Assignment.{role_at, is_target, is_cut};
 ghost use Rattle.cut_alerts.specs.Drawn.{drawn, ranked_role};
 ghost use Rattle.cut_alerts.specs.Given.{given, given_mixed, AreLegalLists};
 
-use crate::given::{are_legal, given_roles};
+use crate::given::GivenLists;
 use crate::{Role, RolesFault};
 use cut_draws::{Draws, ProcessOrder};
 use cut_plan::{Cell, Dead, Faults, Plan};
@@ -139,10 +139,16 @@ impl Roles {
         ensures bad_role { IsErrOf result RolesFault.BadRole
             ↔ ¬ AreLegalLists nodes (crashed.now ++ deaf.now) liars.now links.now }
     {
-        if !are_legal(nodes, crashed, deaf, liars, links) {
+        let lists = GivenLists {
+            crashed,
+            deaf,
+            liars,
+            links,
+        };
+        if !lists.are_legal(nodes) {
             return Err(RolesFault::BadRole);
         }
-        let roles = given_roles(alloc, nodes, crashed, deaf, liars, links)?;
+        let roles = lists.roles(alloc, nodes)?;
         Ok(Roles { roles, dead })
     }
 
