@@ -59,37 +59,25 @@ module _ {D : Type 0} (log : D → DiskLog) (slip : Slip) (old new : JournalValu
       → LeavesAppend (Ok n) slip old new → Appends log (Ok n) slip old new
       → EndsAdding {T = ⊤} log (Ok tt) (slip ∷ []) old new
   slip_added n broken left appends =
-      let none : old.doubtful ≡ None = none_of old.doubtful (λ some. cc (broken.1 some)) in (
-        slip ∷ [],
-        None,
-        (
-          record {
-            plan = left.0;
-            count = left.1;
-            doubtful = left.2 ∙ sym none;
-            taken = λ some. none;
-            whole = λ some. none;
-            untouched = λ zero unfailed. absurd (omega (arith, zero));
-            disk = record {
-              known = appends.known;
-              state = λ known. (let one = appends.state known in record {
-                moments = (
-                  on (log new.disk),
-                  (
-                    rw none at one.moments,
-                    stays (ReadsAs old.plan (kept_slips old.plan old.count (on (log old.disk)) ++ slip ∷ []) new.doubtful)
-                        (on (log new.disk)) (on (log new.disk)) refl
-                        (λ image of. inl (one.acknowledged image of ∙ ap (λ (l : List Slip). Ok l) one.kept)),
-                  ),
-                );
-                kept = one.kept;
-              });
-              faults = appends.faults;
-            };
-          },
-          (refl, refl),
-        ),
-      )
+      let none : old.doubtful ≡ None = none_of old.doubtful (λ some. cc (broken.1 some)) in
+      let kept : List Slip = kept_slips old.plan old.count (on (log old.disk)) ++ slip ∷ [] in
+      let adds : Adds log (slip ∷ []) None old new = record {
+        plan = left.0;
+        count = left.1;
+        doubtful = left.2 ∙ sym none;
+        taken = λ some. none;
+        whole = λ some. none;
+        untouched = λ zero unfailed. absurd (omega (arith, zero));
+        disk = record {
+          known = appends.known;
+          state = λ known. (let one = appends.state known in
+              let after = stays (ReadsAs old.plan kept new.doubtful) (on (log new.disk)) (on (log new.disk)) refl
+              (λ image of. inl (one.acknowledged image of ∙ ap (λ (l : List Slip). Ok l) one.kept)) in
+              record { moments = (on (log new.disk), (rw none at one.moments, after)); kept = one.kept });
+          faults = appends.faults;
+        };
+      } in
+      (slip ∷ [], None, (adds, (refl, refl)))
 
   pub slip_failed : (e : JournalFault) → IsSlipAppendFault e
       → (IsErrOf {T = ℕ} (Err e) journal.Broken ↔ IsSome old.doubtful) → LeavesAppend (Err e) slip old new
@@ -112,8 +100,7 @@ all_added log done xs ys all old mid new are before (added, failed, ends) =
 -- none were added before to a journal that is broken
 pub none_before : (xs : List Slip) (old mid : Option Slip) → (1 ≤ length xs → old ≡ None) → mid ≡ old → IsSome mid → xs ≡ []
 none_before [] old mid taken same some = refl
-none_before (x ∷ xs) old mid taken same some =
-    absurd (let none : mid ≡ None = same ∙ taken (omega arith) in cc)
+none_before (x ∷ xs) old mid taken same some = grind arith
 
 regroup : (xs added : List Slip) (slip : Slip) (later rest : List Slip)
     → (xs ++ (added ++ slip ∷ later)) ++ rest ≡ (xs ++ added) ++ slip ∷ (later ++ rest)
@@ -123,32 +110,14 @@ pub adding_stops : (T U : Type 0) {D : Type 0} (log : D → DiskLog) (e : StoreF
     (old mid new : JournalValue D) → all ≡ (xs ++ ys) ++ rest → Adds log xs None old mid
     → EndsAdding {T = T} log (Err e) ys mid new → EndsAdding {T = U} log (Err e) all old new
 adding_stops T U log store.Broken xs ys rest all old mid new are before (added, failed, ends) =
-    let some : IsSome old.doubtful = subst (λ (o : Option Slip). IsSome o) before.doubtful ends.1.1 in
-    let none = none_before xs old.doubtful mid.doubtful before.taken before.doubtful ends.1.1 in (
-      xs ++ added,
-      failed,
-      (
-        added_then log xs added failed old mid new before ends.0,
-        (
-          omega (arith, ap (λ (l : List Slip). length l) are, length-append (xs ++ ys) rest, length-append xs ys, ends.1.0),
-          some,
-          (ap (λ (l : List Slip). l ++ added) none ∙ ends.1.2.0, ends.1.2.1),
-        ),
-      ),
-    )
+    let none = none_before xs old.doubtful mid.doubtful before.taken before.doubtful ends.1.1 in
+    (xs ++ added, failed, grind (arith, added_then log xs added failed old mid new before ends.0, none, length-append))
 adding_stops T U log store.Disk xs ys rest all old mid new are before (added, failed, ends) = (
   xs ++ added,
   failed,
   (
     added_then log xs added failed old mid new before ends.0,
-    (
-      ends.1.0,
-      ends.1.1 ++ rest,
-      (
-        are ∙ ap (λ (l : List Slip). (xs ++ l) ++ rest) ends.1.2.0 ∙ regroup xs added ends.1.0 ends.1.1 rest,
-        ends.1.2.1,
-      ),
-    ),
+    (ends.1.0, ends.1.1 ++ rest, grind (arith, regroup xs added ends.1.0 ends.1.1 rest)),
   ),
 )
 adding_stops T U log fault xs ys rest all old mid new are before (added, failed, ends) = absurd ends.1
@@ -158,5 +127,4 @@ pub one_failed : (x : Slip) (added : List Slip) (slip : Slip) (later : List Slip
     → (added ≡ []) × (slip ≡ x)
 one_failed x [] slip later are = (refl, cc)
 one_failed x (y ∷ added) slip later are =
-    absurd (let size = ap (λ (l : List Slip). length l) are in let sum = length-append added (slip ∷ later) in
-    omega (arith, size, sum))
+    absurd (omega (arith, ap (λ (l : List Slip). length l) are, length-append added (slip ∷ later)))

@@ -81,9 +81,6 @@ long_body v s =
 abbrev pub put_of : Values → Slip → List ℕ
 put_of v s = body_of v s ++ closed_gate ∷ []
 
-pub long_put : (v : Values) (s : Slip) → length (put_of v s) ≡ slip_length (version_of v.failing)
-long_put v s = length-append (body_of v s) (closed_gate ∷ []) ∙ (let a = long_body v s in omega (arith, a))
-
 first_torn : (v : Values) (n stop : ℕ) (bytes torn : List ℕ) → Holds v bytes n
     → IsTorn (gate_place v n + 1) stop bytes torn → reading v torn ≡ Ok (first_slips v bytes n)
 first_torn v n stop bytes torn holds is =

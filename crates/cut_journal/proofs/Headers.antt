@@ -115,22 +115,17 @@ unfolding has_header
 has_can bytes has =
     grind arith
 
-can_alike : (m : ℕ) (bytes others : List ℕ) → take m others ≡ take m bytes → m < length others → 45 ≤ m
-    → text_length bytes + 45 ≤ m → can_have_header bytes ≡ true → can_have_header others ≡ true
-unfolding can_have_header
-can_alike m bytes others alike long room size can =
-    grind (arith, alike_part m 9 13 others bytes alike, alike_part m 1 9 others bytes alike)
-
 pub header_alike : (m : ℕ) (bytes others : List ℕ) → take m others ≡ take m bytes → m < length others → 45 ≤ m
     → text_length bytes + 45 ≤ m → has_header bytes ≡ true → has_header others ≡ true
-unfolding has_header
+unfolding has_header can_have_header
 header_alike m bytes others alike long room size has =
     let n : ℕ = text_length bytes in
     let is : text_length others ≡ n = ap (from_be_bytes w32)
     (alike_part m 9 13 others bytes alike (omega (arith, room))) in
     grind (
       arith,
-      can_alike m bytes others alike long room size,
+      is,
+      alike_part m 1 9 others bytes alike,
       alike_part m 1 (n + 13) others bytes alike (omega (arith, size)),
       alike_part m (n + 13) (n + 45) others bytes alike (omega (arith, size)),
     )
@@ -144,9 +139,7 @@ says_alike v bytes others alike =
     let place : m ≡ length (canonical_text v) + 45 = gate_first v in
     let is : text_length others ≡ text_length bytes = ap (from_be_bytes w32)
     (alike_part m 9 13 others bytes alike (omega (arith, place))) in
-    let text = λ (low : text_length bytes + 13 ≤ m).
-    alike_part m 13 (text_length bytes + 13) others bytes alike low in
-    grind (arith, nat_tests, is, text)
+    grind (arith, nat_tests, is, alike_part m 13 (text_length bytes + 13) others bytes alike)
 
 pub magic_alike : (v : Values) (bytes others : List ℕ) → take (gate_place v 0) others ≡ take (gate_place v 0) bytes
     → has_magic v others ≡ has_magic v bytes

@@ -75,19 +75,16 @@ pub through_is : {E : Type 0} (P : List ℕ → Type 0) (result : Result ⊤ E) 
 through_is {E} P (Ok done) at put old new stay durable before torn is =
     let there : DiskState = synced (written old at put) in
     let after : P there.bytes = torn (overwritten old.bytes at put) (stay old.bytes put at) in
+    let all = settled_images P there.stable there.bytes refl after in
+    let begun = begun_images P at (at + length put) old there.bytes durable torn in
+    let was = settled_images P old.stable old.bytes durable before in
     subst (λ (d : DiskState). Through {E = E} P (Ok done) at put old d) (sym is) (record {
       moments = record {
         since = (written old at put).stable ∷ old.stable ∷ [];
         goes_on = refl;
-        each = (
-          settled_images P there.stable there.bytes refl after,
-          (
-            begun_images P at (at + length put) old there.bytes durable torn,
-            (settled_images P old.stable old.bytes durable before, tt),
-          ),
-        );
+        each = (all, (begun, (was, tt)));
       };
-      left = (after, settled_images P there.stable there.bytes refl after);
+      left = (after, all);
       durable = λ ok. refl;
       bytes = λ ok. refl;
     })

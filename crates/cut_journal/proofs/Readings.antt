@@ -38,16 +38,6 @@ first_there v bytes header text =
 
 -- ---- the slips
 
-whole_is : (v : Values) (bytes : List ℕ) (i : ℕ) → is_whole v bytes i ≡ true → (gate_place v (i + 1) < length bytes)
-    × (is_slip v (body_at v bytes i) ≡ true)
-whole_is v bytes i is =
-    grind arith
-
-pub whole_from : (v : Values) (bytes : List ℕ) (i : ℕ) → gate_place v (i + 1) < length bytes
-    → is_slip v (body_at v bytes i) ≡ true → is_whole v bytes i ≡ true
-whole_from v bytes i long is =
-    grind arith
-
 -- one whole slip more
 pub one_more_whole : (v : Values) (bytes : List ℕ) (n : ℕ) → AreWhole v bytes n → is_open v bytes n ≡ true
     → is_whole v bytes n ≡ true → AreWhole v bytes (n + 1)
@@ -57,8 +47,7 @@ one_more_whole v bytes n whole opens is = grind arith
 pub gate_there : (v : Values) (bytes : List ℕ) (n : ℕ) → IsOfPlan v bytes → AreWhole v bytes n → gate_place v n
     < length bytes
 gate_there v bytes zero prefix whole = first_there v bytes prefix.header prefix.text
-gate_there v bytes (suc n) prefix whole = subst (λ (k : ℕ). gate_place v k < length bytes) (add-one n)
-    (whole_is v bytes n (whole n (omega arith)).1).0
+gate_there v bytes (suc n) prefix whole = let last = whole n (omega arith) in rw (← add-one n) (grind arith)
 
 -- where there is no study, that is all that is said
 pub none_read : (v : Values) (bytes : List ℕ) → is_study bytes ≡ false → reading v bytes ≡ Err NoStudy
@@ -163,7 +152,7 @@ pub opened_read : (v : Values) (n : ℕ) (bytes others : List ℕ) (slip : Slip)
     → reading v others ≡ Ok (first_slips v bytes n ++ slip ∷ [])
 opened_read v n bytes others slip prefix whole alike long opens is says shut =
     let same = before_same v n bytes others prefix whole alike (omega (arith, long, gate_next v n)) in
-    let more = one_more_whole v others n same.1 opens (whole_from v others n long is) in
+    let more = one_more_whole v others n same.1 opens (grind arith) in
     grind (arith, same, more, holds_reads v others (n + 1), map-range_with_len_more (slip_at v others) 0 n n)
 
 -- ---- headers

@@ -49,12 +49,6 @@ unfolding number_at number_bytes
 number_is version s tail i n low is fits =
     grind (arith, at_number (numbers_of version s) tail i low)
 
--- possible totals are all kept in a slip of the plan's version
-pub settled_holds : (version : Version) (n m : ℕ) (x : Totals) → IsSettledBy version n m x.settled
-    → HoldsAllTotals version x
-settled_holds version n m x is =
-    grind arith
-
 back : (version : Version) (s : Slip) (tail : List ℕ) → HasNumbers s → HoldsAllTotals version s.totals
     → slip_in version (number_bytes version s ++ tail) ≡ s
 back version s tail fits reports =
