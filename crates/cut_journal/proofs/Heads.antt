@@ -43,12 +43,6 @@ pub head_fine : (v : Values) (bytes : List ℕ) (done : ⊤) → head_reading v 
 head_fine v bytes done is =
     grind arith
 
--- then the gate of the first slip is among them
-pub head_within : (v : Values) (bytes : List ℕ) (done : ⊤) → head_reading v bytes ≡ Ok done
-    → gate_place v 0 < length bytes
-head_within v bytes done is =
-    let fine = head_fine v bytes done is in first_there v bytes fine.header fine.text
-
 -- ---- a file that is cut after the longest head
 
 bools_alike : (a b : Bool) → (a ≡ true → b ≡ true) → (b ≡ true → a ≡ true) → a ≡ b

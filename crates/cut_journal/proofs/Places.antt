@@ -37,21 +37,6 @@ next_is v bytes i =
 
 -- ---- one step of the reading
 
-pub closed_in : (v : Values) (more number : ℕ) (rest : List ℕ) → opens rest ≡ false → slips_in v (suc more) number rest
-    ≡ Ok []
-closed_in v more number rest shut = rw shut refl
-
-pub damaged_in : (v : Values) (more number : ℕ) (rest : List ℕ) → opens rest ≡ true → has_slip v rest ≡ false
-    → slips_in v (suc more) number rest ≡ Err (Damaged number)
-damaged_in v more number rest shown broken = rw (shown, broken) refl
-
-pub whole_in : (v : Values) (more number : ℕ) (rest : List ℕ) → opens rest ≡ true → has_slip v rest ≡ true
-    → slips_in v (suc more) number rest ≡ then_slips (slip_in (version_of v.failing) (body_in v rest))
-    (slips_in v more (number + 1) (drop (slip_length (version_of v.failing)) rest))
-whole_in v more number rest shown whole = rw (shown, whole) refl
-
--- ---- by the places of the gates
-
 -- the slips from a gate on
 abbrev pub slips_at : Values → List ℕ → ℕ → ℕ → Result (List Slip) JournalFault
 slips_at v bytes more i = slips_in v more (i + 1) (rest_at v bytes i)
@@ -61,18 +46,18 @@ slip_at v bytes i = slip_in (version_of v.failing) (body_at v bytes i)
 
 pub closed_at : (v : Values) (bytes : List ℕ) (more i : ℕ) → is_open v bytes i ≡ false
     → slips_at v bytes (suc more) i ≡ Ok []
-closed_at v bytes more i shut = closed_in v more (i + 1) (rest_at v bytes i) (opens_is v bytes i ∙ shut)
+closed_at v bytes more i shut =
+    grind (arith, opens_is v bytes i)
 
 pub damaged_at : (v : Values) (bytes : List ℕ) (more i : ℕ) → is_open v bytes i ≡ true → is_whole v bytes i ≡ false
     → slips_at v bytes (suc more) i ≡ Err (Damaged (i + 1))
 damaged_at v bytes more i shown broken =
-    damaged_in v more (i + 1) (rest_at v bytes i) (opens_is v bytes i ∙ shown) (whole_is v bytes i ∙ broken)
+    grind (arith, opens_is v bytes i, whole_is v bytes i)
 
 whole_at : (v : Values) (bytes : List ℕ) (more i : ℕ) → is_open v bytes i ≡ true → is_whole v bytes i ≡ true
     → slips_at v bytes (suc more) i ≡ then_slips (slip_at v bytes i) (slips_at v bytes more (i + 1))
 whole_at v bytes more i shown whole =
-    whole_in v more (i + 1) (rest_at v bytes i) (opens_is v bytes i ∙ shown) (whole_is v bytes i ∙ whole)
-    ∙ rw (body_is v bytes i, next_is v bytes i) refl
+    grind (arith, opens_is v bytes i, whole_is v bytes i, body_is v bytes i, next_is v bytes i)
 
 -- ---- whole slips, and what stands after them
 
@@ -104,9 +89,6 @@ pub record ArePlaced (v : Values) (bytes : List ℕ) (i : ℕ) (slips : List Sli
   pub closed : is_open v bytes (i + length slips) ≡ false
   pub are : slips ≡ map (slip_at v bytes) (range_with_len i (length slips))
 
-none_placed : (v : Values) (bytes : List ℕ) (i : ℕ) → is_open v bytes i ≡ false → ArePlaced v bytes i []
-none_placed v bytes i shut = grind arith
-
 one_placed : (v : Values) (bytes : List ℕ) (i : ℕ) (rest : List Slip) → is_open v bytes i ≡ true → is_whole v bytes i
     ≡ true → ArePlaced v bytes (i + 1) rest → ArePlaced v bytes i (slip_at v bytes i ∷ rest)
 one_placed v bytes i rest opens whole after = grind arith
@@ -116,17 +98,11 @@ then_is : (s : Slip) (r : Result (List Slip) JournalFault) (slips : List Slip) �
 then_is s (Ok rest) slips is = (rest, (refl, cc))
 then_is s (Err fault) slips is = absurd (cc)
 
-more_placed : (v : Values) (bytes : List ℕ) (more i : ℕ) (slips : List Slip) → slips_at v bytes (suc more) i ≡ Ok slips
-    → ((rest : List Slip) → slips_at v bytes more (i + 1) ≡ Ok rest → ArePlaced v bytes (i + 1) rest)
-    → ArePlaced v bytes i slips
-more_placed v bytes more i slips is then =
-    grind (arith, closed_at, damaged_at, whole_at, then_is, none_placed, one_placed)
-
 pub are_placed : (v : Values) (bytes : List ℕ) (more i : ℕ) (slips : List Slip) → slips_at v bytes more i ≡ Ok slips
     → ArePlaced v bytes i slips
 are_placed v bytes zero i slips is = absurd (cc)
 are_placed v bytes (suc more) i slips is =
-    more_placed v bytes more i slips is (λ rest after. are_placed v bytes more (i + 1) rest after)
+    grind (arith, closed_at, damaged_at, whole_at, then_is, one_placed, are_placed v bytes more (i + 1))
 
 -- the slips are never read as no study
 then_none : (s : Slip) (r : Result (List Slip) JournalFault) → then_slips s r ≡ Err NoStudy → r ≡ Err NoStudy

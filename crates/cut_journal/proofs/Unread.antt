@@ -16,7 +16,6 @@ use Rattle.cut_journal.specs.inside.Places.{gate_place, has_slip}
 use Rattle.cut_journal.specs.inside.Steps.{IsOfPlan, IsStep}
 use Rattle.cut_journal.specs.inside.UnreadInside.{unread_of, IsAtGate}
 use Rattle.cut_journal.proofs.Gates.{gate_far, gate_next, nine_numbers}
-use Rattle.cut_journal.proofs.Places.{closed_in, damaged_in, whole_in}
 use Rattle.cut_journal.proofs.Readings.{first_there, plan_read, reading_at}
 
 -- ---- the first gate
@@ -43,10 +42,6 @@ opened k later at is =
     omega (arith, at.place, at.within, gate_far k.study k.gate.number) in
     rw more is
 
-fits : (v : Values) (rest : List ℕ) → has_slip v rest ≡ true → slip_length (version_of v.failing) < length rest
-fits v rest whole =
-    grind (arith, nat_tests)
-
 -- the gate after a slip
 abbrev pub moved : Inside → ℕ → Inside
 moved k size = record k { gate = record { number = k.gate.number + 1; place = k.gate.place + size } }
@@ -55,20 +50,20 @@ moved k size = record k { gate = record { number = k.gate.number + 1; place = k.
 pub next_at : (k : Inside) (slip : Slip) (size : ℕ) → size ≡ slip_length (version_of k.study.failing) → IsAtGate k
     → IsStep (Ok (Some slip)) k.study (k.gate.number + 1) (drop k.gate.place k.bytes.now) → IsAtGate (moved k size)
 next_at k slip size is at step =
-    grind (arith, fits, gate_next, length-drop)
+    grind (arith, nat_tests, gate_next, length-drop)
 
 pub reads_on : (k : Inside) (slip : Slip) (size : ℕ) → size ≡ slip_length (version_of k.study.failing) → IsAtGate k
     → IsStep (Ok (Some slip)) k.study (k.gate.number + 1) (drop k.gate.place k.bytes.now)
     → IsReadNext (Ok (Some slip)) (unread_of k) (unread_of (moved k size))
 reads_on k slip size is at step =
-    grind (arith, opened k (then_slips slip (unread_of (moved k size)).slips) at, whole_in, drop-drop, nine_numbers)
+    grind (arith, opened k (then_slips slip (unread_of (moved k size)).slips) at, drop-drop, nine_numbers)
 
 pub reads_none : (k : Inside) → IsAtGate k
     → IsStep (Ok None) k.study (k.gate.number + 1) (drop k.gate.place k.bytes.now) → (unread_of k).slips ≡ Ok []
 reads_none k at shut =
-    grind (arith, opened k (Ok []) at, closed_in)
+    grind (arith, opened k (Ok []) at)
 
 pub reads_fault : (k : Inside) (fault : JournalFault) → IsAtGate k
     → IsStep (Err fault) k.study (k.gate.number + 1) (drop k.gate.place k.bytes.now) → (unread_of k).slips ≡ Err fault
 reads_fault k fault at step =
-    grind (arith, opened k (Err fault) at, damaged_in)
+    grind (arith, opened k (Err fault) at)
