@@ -17,7 +17,7 @@ use Rattle.cut_faults.specs.Failures.{one_more}
 use Rattle.cut_ledger.specs.declared.slip.Slip.{Slip}
 use Rattle.cut_journal.specs.declared.fault.JournalFault.{JournalFault}
 use Rattle.cut_journal.specs.declared.fault.JournalFault.TheVariants.{Disk}
-use Rattle.cut_journal.specs.File.{HoldsAllTotals, open_gate, closed_gate, numbers_length, slip_length, body_of}
+use Rattle.cut_journal.specs.File.{HoldsAllTotals, open_gate, closed_gate, numbers_length, body_of}
 use Rattle.cut_journal.specs.Reading.{reading}
 use Rattle.cut_journal.specs.Journal.{Appends, JournalValue, ReadsAs, IsFileOf, fault_counts, kept_slips, slips_of}
 use Rattle.cut_journal.specs.inside.Steps.{HasNumbers, WritesThrough, KeepsSlip, Leave}

@@ -1,6 +1,5 @@
 -- What is left of a disk that was not claimed.
-use Rattle.std.proofs.Common.{◌≡◌, ℕ, true, false, List, Err}
-use Rattle.std.proofs.Common.{arith}
+use Rattle.std.proofs.Common.{◌≡◌, ℕ, true, false, List, Err, arith}
 use Rattle.std.proofs.lemmas.Bool.{false_from_ne_true}
 use Rattle.std.proofs.lemmas.Bool.Decides.{nat_tests}
 use Rattle.cut_plan.specs.Values.{Values}
@@ -9,8 +8,7 @@ use Rattle.cut_disks.specs.Log.{DiskLog, Goes, on}
 use Rattle.cut_journal.specs.declared.fault.JournalFault.{JournalFault}
 use Rattle.cut_journal.specs.declared.fault.JournalFault.TheVariants.{NoStudy}
 use Rattle.cut_journal.specs.Reading.{is_study, reading}
-use Rattle.cut_journal.specs.Opening.{IsNotClaimed, IsNotMade, is_foreign}
-use Rattle.cut_journal.specs.Opening.{is_unclaimed, IsNotOpened, IsRefused}
+use Rattle.cut_journal.specs.Opening.{IsNotClaimed, IsNotMade, is_foreign, is_unclaimed, IsNotOpened, IsRefused}
 use Rattle.cut_journal.specs.Journal.{fault_counts}
 use Rattle.cut_journal.proofs.Makings.{closed_none, short_none}
 use Rattle.cut_journal.proofs.Readings.{none_read, some_read}

@@ -5,8 +5,7 @@ use Rattle.cut_plan.specs.Values.{Values}
 use Rattle.cut_outcome.specs.Computed.{Computed}
 use Rattle.cut_ledger.specs.declared.slip.Slip.{Slip}
 use Rattle.cut_ledger.specs.declared.event.Event.TheVariants.{HandIn, HandInDiskFails, CrashReopen}
-use Rattle.cut_ledger.specs.Machine.{StudyState, after, opened, slip_of, slips_found}
-use Rattle.cut_ledger.specs.Machine.{taken, failed}
+use Rattle.cut_ledger.specs.Machine.{StudyState, after, opened, slip_of, slips_found, taken, failed}
 use Rattle.cut_ledger.specs.Refusals.{refusal_of}
 use Rattle.cut_journal.specs.Journal.{kept_slips, ReadsAs}
 use Rattle.cut_journal.specs.Laws.{IsResumed, CrashesBetweenCalls, CrashesInAppends, AppendsFollow}

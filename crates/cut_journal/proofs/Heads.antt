@@ -13,8 +13,7 @@ use Rattle.cut_plan.specs.Canonical.{canonical_text}
 use Rattle.cut_disks.specs.State.{DiskState, synced}
 use Rattle.cut_journal.specs.declared.fault.JournalFault.{JournalFault}
 use Rattle.cut_journal.specs.Opening.{IsOpeningFaultOf, IsRefused}
-use Rattle.cut_journal.specs.Reading.{is_study, has_header, text_length, can_have_header}
-use Rattle.cut_journal.specs.Reading.{reading}
+use Rattle.cut_journal.specs.Reading.{is_study, has_header, text_length, can_have_header, reading}
 use Rattle.cut_journal.specs.Unread.{IsUnreadable}
 use Rattle.cut_journal.specs.declared.slips.Slips.{Slips}
 use Rattle.cut_journal.specs.inside.Steps.{AreRead, Finds, IsOfPlan, IsSlipFault, head_in, head_reading}
@@ -22,7 +21,7 @@ use Rattle.cut_journal.specs.inside.Places.{gate_place}
 use Rattle.cut_journal.proofs.Counts.{alike_place, alike_prefix}
 use Rattle.cut_journal.proofs.Gates.{gate_first}
 use Rattle.cut_journal.proofs.Headers.{has_can, header_alike, says_alike, magic_alike}
-use Rattle.cut_journal.proofs.Readings.{first_there, plan_read}
+use Rattle.cut_journal.proofs.Readings.{plan_read}
 
 -- ---- what bytes are read as, by their first ones
 

@@ -1,7 +1,6 @@
 -- What the writes of a new study leave, whatever crash may come.
-use Rattle.std.proofs.Common.{◌≡◌, ◌∙◌, ◌≤◌, ◌<◌, ◌++◌, ◌==◌, ◌⊎◌, inl, ℕ, false, List, []}
-use Rattle.std.proofs.Common.{◌∷◌, Result, Ok, length, drop, slice_index, refl, sym, ap, subst}
-use Rattle.std.proofs.Common.{arith, append_assoc, length-append}
+use Rattle.std.proofs.Common.{◌≡◌, ◌∙◌, ◌≤◌, ◌<◌, ◌++◌, ◌==◌, ◌⊎◌, inl, ℕ, false, List, [], ◌∷◌, Result, Ok, length}
+use Rattle.std.proofs.Common.{drop, slice_index, refl, sym, ap, subst, arith, append_assoc, length-append}
 use Rattle.std.specs.Bool.{⊤}
 use Rattle.std.proofs.lemmas.Bool.Decides.{nat_tests}
 use Rattle.std.proofs.lemmas.List.{take_at, get_or-append_right}

@@ -105,15 +105,7 @@ are_placed v bytes (suc more) i slips is =
     grind (arith, closed_at, damaged_at, whole_at, then_is, one_placed, are_placed v bytes more (i + 1))
 
 -- the slips are never read as no study
-then_none : (s : Slip) (r : Result (List Slip) JournalFault) → then_slips s r ≡ Err NoStudy → r ≡ Err NoStudy
-then_none s r is =
-    grind arith
-
 pub never_none : (v : Values) (more number : ℕ) (rest : List ℕ) → slips_in v more number rest ≡ Err NoStudy → ⊥
 never_none v zero number rest is = cc
 never_none v (suc more) number rest is =
-    grind (
-      arith,
-      then_none,
-      never_none v more (number + 1) (drop (slip_length (version_of v.failing)) rest),
-    )
+    grind (arith, never_none v more (number + 1) (drop (slip_length (version_of v.failing)) rest))

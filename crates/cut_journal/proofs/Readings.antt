@@ -1,7 +1,7 @@
 -- How bytes are read.
 use Rattle.std.proofs.Common.{◌≡◌, ◌∙◌, ◌≤◌, ◌<◌, ◌+◌, ◌-◌, ◌++◌, ◌==◌, ◌&&◌, ℕ, zero, suc, Bool, true}
 use Rattle.std.proofs.Common.{false, cond, List, [], ◌∷◌, Result, Ok, Err, length, take, slice_range}
-use Rattle.std.proofs.Common.{nat_le, refl, sym, ap, subst, arith, zero-add, add-one}
+use Rattle.std.proofs.Common.{nat_le, refl, sym, ap, arith, zero-add, add-one}
 use Rattle.std.specs.Prelude.{bytes_eq, Option, Some, None}
 use Rattle.std.specs.Int.{w32, from_be_bytes}
 use Rattle.std.proofs.lemmas.Bool.Decides.{nat_tests}

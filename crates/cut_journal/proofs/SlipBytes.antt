@@ -12,12 +12,9 @@ use Rattle.cut_fields.specs.declared.version.Version.{Version}
 use Rattle.cut_fields.specs.declared.version.Version.TheVariants.{One, Two}
 use Rattle.cut_plan.specs.Failing.{version_of}
 use Rattle.cut_plan.specs.Values.{Values}
-use Rattle.cut_outcome.specs.declared.totals.Totals.{Totals}
-use Rattle.cut_outcome.specs.Possible.{IsSettledBy}
 use Rattle.cut_ledger.specs.declared.slip.Slip.{Slip}
 use Rattle.cut_journal.specs.File.{HoldsAllTotals, closed_gate, numbers_length, slip_length, numbers_of, number_bytes}
-use Rattle.cut_journal.specs.File.{body_of}
-use Rattle.cut_journal.specs.File.{header_digest}
+use Rattle.cut_journal.specs.File.{body_of, header_digest}
 use Rattle.cut_journal.specs.Reading.{number_at, slip_in, is_slip}
 use Rattle.cut_journal.specs.inside.Steps.{HasNumbers}
 use borrow.Rule.Slice.PartMut.{put_mid}

@@ -1,18 +1,16 @@
 -- How a reading of slips goes on from one of their gates.
-use Rattle.std.proofs.Common.{◌≡◌, ◌∙◌, ◌<◌, ◌+◌, ◌-◌, ℕ, suc, true, List, [], Result, Ok, Err, length, drop}
-use Rattle.std.proofs.Common.{sym, arith}
+use Rattle.std.proofs.Common.{◌≡◌, ◌∙◌, ◌+◌, ◌-◌, ℕ, suc, List, [], Result, Ok, Err, length, drop, sym, arith}
 use Rattle.std.specs.Prelude.{Some, None}
 use Rattle.std.proofs.lemmas.Bool.Decides.{nat_tests}
 use Rattle.std.proofs.lemmas.List.{drop-drop, length-drop}
 use Rattle.cut_plan.specs.Failing.{version_of}
-use Rattle.cut_plan.specs.Values.{Values}
 use Rattle.cut_ledger.specs.declared.slip.Slip.{Slip}
 use Rattle.cut_journal.specs.declared.fault.JournalFault.{JournalFault}
 use Rattle.cut_journal.specs.declared.kept_slips.KeptSlips.TheInside.{Inside}
 use Rattle.cut_journal.specs.File.{slip_length}
 use Rattle.cut_journal.specs.Reading.{reading, slips_in, then_slips}
 use Rattle.cut_journal.specs.Unread.{IsReadNext}
-use Rattle.cut_journal.specs.inside.Places.{gate_place, has_slip}
+use Rattle.cut_journal.specs.inside.Places.{gate_place}
 use Rattle.cut_journal.specs.inside.Steps.{IsOfPlan, IsStep}
 use Rattle.cut_journal.specs.inside.UnreadInside.{unread_of, IsAtGate}
 use Rattle.cut_journal.proofs.Gates.{gate_far, gate_next, nine_numbers}
