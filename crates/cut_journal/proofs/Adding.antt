@@ -11,7 +11,8 @@ use Rattle.cut_journal.specs.declared.store_fault.StoreFault.{StoreFault}
 use Rattle.cut_journal.specs.declared.store_fault.StoreFault.TheVariants as store
 use Rattle.cut_journal.specs.Adding.{Adds, EndsAdding, doubtful_after}
 use Rattle.cut_journal.specs.inside.Adding.{store_fault_of}
-use Rattle.cut_journal.specs.Journal.{Appends, IsFileOf, IsSlipAppendFault, JournalValue, LeavesAppend, ReadsAs, kept_slips}
+use Rattle.cut_journal.specs.Journal.{Appends, IsFileOf, IsSlipAppendFault, JournalValue, LeavesAppend, ReadsAs}
+use Rattle.cut_journal.specs.Journal.{kept_slips}
 use Rattle.cut_journal.proofs.Moments.{stays}
 use Rattle.cut_journal.proofs.Series.{LeavesDoubt, each_then, none_of, nothing_appended}
 

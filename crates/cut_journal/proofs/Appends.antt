@@ -243,7 +243,8 @@ pub slip_kept : {D E : Type 0} (log : D → DiskLog) (number : ℕ) (slip : Slip
     (doubtful : Option Slip) → doubtful ≡ None → Knows (log old) (IsFileOf v n doubtful)
     → Goes (λ n. n) (KeepsSlip {E = E} (Ok tt) v n slip) (log old) (log new)
     → Appends log (Ok number) slip (record { disk = old; plan = v; count = n; doubtful = doubtful })
-    (record { disk = new; plan = v; count = n + 1; doubtful = doubtful }) × Knows (log new) (IsFileOf v (n + 1) doubtful)
+    (record { disk = new; plan = v; count = n + 1; doubtful = doubtful })
+    × Knows (log new) (IsFileOf v (n + 1) doubtful)
 slip_kept log number slip old new v n doubtful none sound goes =
     grind (
       arith,

@@ -78,7 +78,8 @@ pub keeps : {E : Type 0} (result : Result ⊤ E) (v : Values) (n place : ℕ) (s
     → WritesThrough {E = E} (Ok tt) (place + 1) put old mid → WritesThrough result place (open_gate ∷ []) mid new
     → KeepsSlip result v n slip old new
 keeps {E} result v n place slip put old mid new here stay sound fits reports made before is =
-    let wrote : WritesThrough {E = E} (Ok tt) (gate_place v n + 1) (put_of v slip) old mid = rw (here, made) at before in
+    let wrote : WritesThrough {E = E} (Ok tt) (gate_place v n + 1) (put_of v slip) old mid =
+    rw (here, made) at before in
     let first = first_step {E = E} (Ok tt) v n slip (put_of v slip) old mid stay sound wrote in
     let second = second_step result v n slip old mid new stay sound fits reports (first.bytes refl) (first.durable refl)
     (subst (λ (p : ℕ). WritesThrough result p (open_gate ∷ []) mid new) here is) in record {

@@ -107,7 +107,7 @@ pub none_new : (v : Values) (bytes : List ℕ) → IsNone bytes → IsNewStudy v
 none_new v bytes none = inl (none_read v bytes none)
 
 -- the gate is closed, the rest is written, and the gate is opened
-pub new_written : (v : Values) (old shut rest new : DiskState) → Throughout old shut IsNone → Throughout shut rest IsNone
-    → Throughout rest new (IsNewStudy v) → Throughout old new (IsNewStudy v)
+pub new_written : (v : Values) (old shut rest new : DiskState) → Throughout old shut IsNone
+    → Throughout shut rest IsNone → Throughout rest new (IsNewStudy v) → Throughout old new (IsNewStudy v)
 new_written v old shut rest new first second last = and_then (IsNewStudy v) old rest new
     (weaker IsNone (IsNewStudy v) (none_new v) old rest (and_then IsNone old shut rest first second)) last
