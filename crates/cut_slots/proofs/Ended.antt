@@ -1,5 +1,5 @@
 -- What is left of a study at the end of its slot.
-use Rattle.std.proofs.Common.{◌≡◌, Bool, Option, Some, None, IfSome, refl, subst}
+use Rattle.std.proofs.Common.{◌≡◌, Bool, Option, Some, None, IfSome, subst}
 use Rattle.cut_disks.specs.Log.{DiskLog}
 use Rattle.cut_ledger.specs.Contents.{is_complete}
 use Rattle.cut_journal.specs.Journal.{JournalValue}

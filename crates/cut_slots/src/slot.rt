@@ -7,10 +7,9 @@ ghost use Rattle.cut_ledger.specs.declared.lines.line.TheConstants.{LONGEST_LINE
 ghost use Rattle.cut_plan.specs.Cells.{cells_of};
 ghost use Rattle.cut_slots.specs.Lines.{full_line};
 ghost use Rattle.cut_slots.specs.Report.{calls_recorded, opening_recorded};
-ghost use Rattle.cut_book.specs.Book.{HandsIn, IsHandInFault, answer_of};
 ghost use Rattle.cut_slots.specs.Trust.{IsSettledBy-prop, MayBegin, begun_props};
 ghost use Rattle.cut_slots.specs.Slot.{CanNotBegin, has_journal_in, IsBegunOver};
-ghost use Rattle.cut_slots.specs.Start.{IsLeftOf, start_in, start_of};
+ghost use Rattle.cut_slots.specs.Start.{IsLeftOf, start_in};
 ghost use Rattle.cut_slots.specs.Slot.{calls_in, IsBegunStudy, base_of, kept_of, unkept_of, Matches, TakesResult};
 ghost use Rattle.cut_slots.specs.Slot.{TakesLoss, GivesLine, losses_of, lines_of};
 ghost use Rattle.cut_book.specs.Book.{IsFresh};
@@ -156,7 +155,7 @@ impl<D: Disk + Drop, K: CallLedger> Slot<D, K> {
         if counter.count(made, kept).is_err() {
             return Err(CallFault::Full);
         }
-        match hand_to(book, offered) {
+        match book.hand_in(offered) {
             Ok(()) => Ok(()),
             Err(BookFault::Memory) => {
                 counter.take_back(made, kept);
@@ -509,18 +508,6 @@ fn opened_of<D: Disk + Drop>(
     let base = ledger.base().try_clone(alloc)?;
     let plan = ledger.plan().try_clone(alloc)?;
     Ok(Opened { study, plan, base })
-}
-
-/// Hands a result to a book, which keeps what it was opened with.
-fn hand_to<D: Disk + Drop>(book: &mut Book<D>, offered: &PieceResult) -> Result<(), BookFault>
-    ensures answer { HandsIn (answer_of result book.old.state) offered.now book.old book.new }
-    ensures only_faults { IfErr result IsHandInFault }
-    ensures first { take (length book.old.state.ledger.base) book.old.state.kept ≡ book.old.state.ledger.base
-        → take (length book.new.state.ledger.base) book.new.state.kept ≡ book.new.state.ledger.base }
-    ensures unkept { unkept_of (Some book.old) ≡ [] → unkept_of (Some book.new) ≡ [] }
-    ensures start { start_of D.log book.new ≡ start_of D.log book.old }
-{
-    book.hand_in(offered)
 }
 
 /// Notes that the line of a cell was given.
