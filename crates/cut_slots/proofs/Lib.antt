@@ -4,4 +4,3 @@ pub mod Crossing
 pub mod Trusted
 pub mod Begun
 pub mod Ended
-pub mod Handed

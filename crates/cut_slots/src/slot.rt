@@ -10,20 +10,20 @@ ghost use Rattle.cut_slots.specs.Report.{calls_recorded, opening_recorded};
 ghost use Rattle.cut_slots.specs.Trust.{IsSettledBy-prop, MayBegin, begun_props};
 ghost use Rattle.cut_slots.specs.Slot.{CanNotBegin, has_journal_in, IsBegunOver};
 ghost use Rattle.cut_slots.specs.Start.{IsLeftOf, start_in};
-ghost use Rattle.cut_slots.specs.Slot.{calls_in, IsBegunStudy, base_of, kept_of, unkept_of, Matches, TakesResult};
+ghost use Rattle.cut_slots.specs.Slot.{calls_in, IsBegunStudy, base_of, kept_of, unkept_of, Matches};
 ghost use Rattle.cut_slots.specs.Slot.{TakesLoss, GivesLine, losses_of, lines_of};
 ghost use Rattle.cut_book.specs.Book.{IsFresh};
 ghost use Rattle.cut_ledger.specs.Slips.{AreGood};
 ghost use Rattle.cut_ledger.specs.World.{AreTrue};
 ghost use Rattle.cut_slots.specs.Slot.{IsOpenedAs, SaysWhyUndone, AnswersLine, AnswersAgain, IsNotDone};
 ghost use Rattle.cut_slots.specs.Slot.{is_pending, remembered_after, piece_at, HasDone, HasPlan};
-ghost use Rattle.cut_slots.specs.inside.Slot.{CanGive, IsResultFault, calls_of};
+ghost use Rattle.cut_slots.specs.inside.Slot.{CanGive};
 
 use crate::{CallCounter, CallLedger, NextRowFault, SlotReport};
 use cut_book::{Book, BookFault, Opened, Shelf, SubmitFault, open_book};
 use cut_disks::Disk;
 use cut_journal::Journal;
-use cut_outcome::{Piece, PieceResult};
+use cut_outcome::Piece;
 use cut_plan::Plan;
 use cut_table::{RowFault, row};
 use std::alloc::{AllocError, Global};
@@ -86,8 +86,8 @@ pub struct EndedSlot<D: Disk, K: CallLedger> {
 /// A place for the book of one study in a hall, with how many calls it had, and which of its lines were given.
 #[derive(Drop)]
 pub struct Slot<D: Disk, K: CallLedger> {
-    book: Option<Book<D>>,
-    kept: Share<K>,
+    pub(crate) book: Option<Book<D>>,
+    pub(crate) kept: Share<K>,
     stopped: bool,
     /// Of each cell whether its line was given. If this is shorter, it is not remembered.
     given: Vec<bool>,
@@ -130,38 +130,6 @@ impl<D: Disk + Drop, K: CallLedger> Slot<D, K> {
             Match::Same
         } else {
             Match::Other
-        }
-    }
-
-    /// Hands a result to the book.
-    pub(crate) fn hand_in<M: CallLedger, C: CallCounter<M, K>>(
-        &mut self,
-        counter: &C,
-        made: &mut Share<M>,
-        offered: &PieceResult,
-    ) -> Result<(), CallFault>
-        requires { made.old.parts ≡ 1 }
-        ensures taken { TakesResult result offered.now self.old.book self.new.book }
-        ensures only_faults { IfErr result IsResultFault }
-        ensures stays { (self.new.stopped ≡ self.old.stopped) × (self.new.given ≡ self.old.given) }
-        ensures calls { calls_in self.new.book ≡ calls_in self.old.book + calls_of result }
-        ensures made { made.new.amount ≡ made.old.amount + calls_of result }
-        ensures parts { made.new.parts ≡ 1 }
-    {
-        let Slot { book, kept, .. } = self;
-        let Some(book) = book else {
-            return Err(CallFault::NoBook);
-        };
-        if counter.count(made, kept).is_err() {
-            return Err(CallFault::Full);
-        }
-        match book.hand_in(offered) {
-            Ok(()) => Ok(()),
-            Err(BookFault::Memory) => {
-                counter.take_back(made, kept);
-                Err(CallFault::Refused(BookFault::Memory))
-            }
-            Err(fault) => Err(CallFault::Refused(fault)),
         }
     }
 

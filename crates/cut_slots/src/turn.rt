@@ -32,8 +32,10 @@ pub struct Drawn {
 }
 
 impl<D: Disk + Drop, K: CallLedger> Slot<D, K> {
-    /// Hands the result of a drawn piece in, or returns how the worker goes on if it is not accepted. If it is, its
-    /// trials are counted by the pass on the board. If memory runs out for it the piece is lost.
+    /// Hands the result of a drawn piece in to the slot's book, or returns how the worker goes on if it is not
+    /// accepted. If it is, its trials are counted by the pass on the board. The call is counted as made by the pass
+    /// and as kept by the slot; if there is no book, or no further call can be counted, nothing is done. If memory
+    /// runs out for the result its call is taken back, and the piece is lost.
     pub fn take_and_count<M: CallLedger, C: CallCounter<M, K>>(
         &mut self,
         counter: &C,
@@ -51,16 +53,24 @@ impl<D: Disk + Drop, K: CallLedger> Slot<D, K> {
             pass.old.view pass.new.view }
     {
         let Pass { seat, made } = pass;
-        match self.hand_in(counter, made, offered) {
+        let Slot { book, kept, .. } = self;
+        let Some(book) = book else {
+            return Err(Next::Piece);
+        };
+        if counter.count(made, kept).is_err() {
+            return Err(Next::Nothing);
+        }
+        match book.hand_in(offered) {
             Ok(()) => {
                 count_trials(board, seat, drawn);
                 Ok(())
             }
-            Err(CallFault::Refused(BookFault::Memory)) => {
+            Err(BookFault::Memory) => {
+                counter.take_back(made, kept);
                 let noted = self.lose(counter, made, drawn.number);
                 Err(next_after(noted))
             }
-            Err(fault) => Err(next_after(Err(fault))),
+            Err(fault) => Err(next_after(Err(CallFault::Refused(fault)))),
         }
     }
 }
