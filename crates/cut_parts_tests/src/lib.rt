@@ -19,6 +19,8 @@ mod faults;
 #[cfg(test)]
 mod files;
 #[cfg(test)]
+mod items;
+#[cfg(test)]
 mod lanes;
 #[cfg(test)]
 mod ranges;

@@ -8,7 +8,7 @@ use cut_draws::Draws;
 use cut_outcome::{Piece, PieceResult, Totals};
 use cut_plan::{Cell, Plan, PlanFault};
 use cut_rings::{Edge, Rings};
-use cut_trial::{TrialFault, run_piece, run_trial};
+use cut_trial::{PieceRunner, TrialFault, run_piece, run_trial};
 use std::alloc::{AllocError, Global};
 use std::test::Fail;
 
@@ -108,6 +108,23 @@ const CRASHED: &str =
 
 const DEAF: &str =
     r#"{"copies":1,"dead":"silent","f":[1],"faults":"deaf","h":[1],"implicit":true,"k":[1],"l":[1],"liars":0,"links":0,"nodes":5,"repeats":2,"seed":"0000000000000000000000000000000000000000000000000000000000000000","version":1}"#;
+
+#[test]
+fn a_runner_runs_pieces_of_its_plan(rt: HostRuntime) -> Result<(), Fail> {
+    let plan = Plan::from_json(rt.alloc(), CRASHED.as_bytes())?;
+    let rings = Rings::hashed(rt.alloc(), &plan)?;
+    let runner = PieceRunner {
+        alloc: rt.alloc(),
+        plan: &plan,
+        rings: &rings,
+    };
+    let Some(both) = runner.run(Piece { first: 0, count: 2 }) else {
+        panic!(rt; "no result");
+    };
+    assert!(rt; has_numbers(both.totals(), "8 0 0 0 8 2 2 0"));
+    assert!(rt; runner.run(Piece { first: 1, count: 2 }).is_none());
+    Ok(())
+}
 
 const MIXED_DEAF: &str =
     r#"{"copies":1,"dead":"silent","deaf":1,"f":[1],"h":[1],"implicit":true,"k":[1],"l":[1],"liars":0,"links":0,"nodes":5,"repeats":2,"seed":"0000000000000000000000000000000000000000000000000000000000000000","version":2}"#;
