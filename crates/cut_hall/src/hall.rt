@@ -10,7 +10,7 @@ ghost use Rattle.cut_book.specs.Book.{IsFresh};
 ghost use Rattle.cut_board.specs.Names.{board_id, seats_of, studies_of};
 ghost use Rattle.cut_slots.specs.Start.{start_of};
 ghost use Rattle.cut_hall.specs.Rows.{CanNotGiveAgain, rows_of};
-ghost use Rattle.cut_slots.specs.Slot.{CanNotBegin};
+ghost use Rattle.cut_slots.specs.Slot.{CanNotTake};
 ghost use Rattle.cut_slots.specs.Trust.{MayBegin};
 ghost use Rattle.cut_ledger.specs.Slips.{AreGood};
 
@@ -170,7 +170,7 @@ impl<D: Disk + Drop, M: CallLedger, K: CallLedger> Hall<D, M, K> {
         ensures plan { IfOk result (λ o. o.plan ≡ plan) }
         ensures base { IfOk result (λ o. MayBegin self.now.is_trusted plan o.base) }
         ensures slot { IfOk result (λ o. o.study < self.now.slots) }
-        ensures why { IfErr result (CanNotBegin (S.gives shelf.now plan)) }
+        ensures why { IfErr result (CanNotTake (S.gives shelf.now plan)) }
         ensures pass { pass.new ≡ pass.old }
     {
         // Of the pass it matters only that it is one of this hall.

@@ -42,12 +42,18 @@ has_journal_in (Some b) = is_some b.journal
 abbrev pub IsBegunOver : {D : Type 0} → (Result (Option D) ShelfFault → Type 0) → Bool → Type 0
 IsBegunOver {D} gives has_journal = (disk : Option D) × (gives (Ok disk) × (has_journal ≡ is_some disk))
 
--- why a study is not begun over what its shelf may give: memory ran out, or every slot has another study, which says
--- nothing of the shelf; and the checkpoint only where the shelf could not open the disk, or gave one
+-- why a study is not begun in a slot over what its shelf may give: memory ran out; or the checkpoint, and that only where
+-- the shelf could not open the disk, or gave one
 abbrev pub CanNotBegin : {D : Type 0} → (Result (Option D) ShelfFault → Type 0) → SubmitFault → Type 0
 CanNotBegin gives submit.WorkMemory = ⊤
-CanNotBegin gives submit.SlotsFull = ⊤
+CanNotBegin gives submit.SlotsFull = ⊥
 CanNotBegin {D} gives submit.Checkpoint = gives (Err Open) ⊎ ((disk : D) × gives (Ok (Some disk)))
+
+-- why a hall takes no study: it is not begun, or every slot has another one, which says nothing of the shelf
+abbrev pub CanNotTake : {D : Type 0} → (Result (Option D) ShelfFault → Type 0) → SubmitFault → Type 0
+CanNotTake gives submit.WorkMemory = CanNotBegin gives submit.WorkMemory
+CanNotTake gives submit.SlotsFull = ⊤
+CanNotTake gives submit.Checkpoint = CanNotBegin gives submit.Checkpoint
 
 -- the slips that it began with, and those that are kept of it
 abbrev pub base_of : {D : Type 0} → Option (BookValue D) → List Slip

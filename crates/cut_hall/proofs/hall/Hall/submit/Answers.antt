@@ -1,8 +1,9 @@
-use Rattle.std.proofs.Common.{◌∙◌, Bool, IfOk, sym, ap, subst}
+use Rattle.std.proofs.Common.{◌∙◌, Bool, IfErr, IfOk, sym, ap, subst}
 use Rattle.cut_plan.specs.Values.{Values}
 use Rattle.cut_hall.specs.Hall.{HallValue}
+use Rattle.cut_slots.specs.Slot.{CanNotBegin}
 use Rattle.cut_slots.specs.Trust.{MayBegin}
-use Rattle.cut_hall.proofs.Refused.{refused_memory}
+use Rattle.cut_hall.proofs.Refused.{not_begun, refused_memory}
 use Rattle.cut_hall.proofs.hall.Hall.submit.Goals as goal
 
 pub returns-in-Same-clause-base : goal.returns-in-Same-clause-base
@@ -26,3 +27,10 @@ returns-in-Free-clause-base g c =
 pub returns-in-Same-clause-why : goal.returns-in-Same-clause-why
 returns-in-Same-clause-why g c =
     refused_memory (g.S.Shelf.gives c.args.shelf.now c.args.plan) c.opened.result c.opened.ensures.why
+
+pub returns-in-Free-clause-why : goal.returns-in-Free-clause-why
+returns-in-Free-clause-why g c =
+    let gives = g.S.Shelf.gives c.args.shelf.now in
+    not_begun (gives c.args.plan) c.begin-opened.result
+    (subst (λ (v : Values). IfErr c.begin-opened.result (CanNotBegin (gives v))) c.loop-study.invariant.0
+    c.begin-opened.ensures.why)
