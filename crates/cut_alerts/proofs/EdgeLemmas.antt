@@ -50,6 +50,20 @@ pub subject_more : (test : Edge → Bool) (k s : ℕ) (ys zs : List Edge) → ys
 subject_more test k s ys zs is more =
     grind (arith, filter-append, all_edges_more)
 
+none_passes : (test : Edge → Bool) (s a j : ℕ) → ((ring : ℕ) → ring < a + j → test (edge ring s) ≡ false)
+    → filter test (map (λ ring. edge ring s) (range_with_len a j)) ≡ []
+none_passes test s a zero fails = refl
+none_passes test s a (suc j) fails =
+    let first : test (edge a s) ≡ false = fails a (omega arith) in
+    rw first (none_passes test s (a + 1) j (λ ring low. fails ring (omega arith)))
+
+-- a subject none of whose edges passes adds nothing
+pub subject_skipped : (test : Edge → Bool) (k s : ℕ) (ys : List Edge) → ys ≡ filter test (all_edges k s)
+    → ((ring : ℕ) → ring < k → test (edge ring s) ≡ false) → ys ≡ filter test (all_edges k (s + 1))
+subject_skipped test k s ys is fails =
+    subject_more test k s ys ys is (sym (ap (λ zs. ys ++ zs) (none_passes test s 0 k (λ ring low. fails ring (omega arith)))
+    ∙ append-nil ys))
+
 -- ---- edges within their range
 
 list_all-filter : (p q : Edge → Bool) (xs : List Edge) → list_all p xs ≡ true → list_all p (filter q xs) ≡ true

@@ -3,3 +3,4 @@ pub mod RankLemmas
 pub mod Legal
 pub mod Deafness
 pub mod Grouped
+pub mod Suspects

@@ -1,14 +1,19 @@
 ghost use Rattle.std.specs.Prelude.{◌≡◌, ◌≤◌, ◌<◌, ◌↔◌, ◌++◌, ◌*◌, [], ℕ, length, map, filter, Contains, IfOk, OnOk};
-ghost use Rattle.std.specs.Prelude.{OnErr, IsTrue};
+ghost use Rattle.std.specs.Prelude.{OnErr, IsTrue, true, false};
 ghost use Rattle.std.specs.List.Sorted.{IsStrictlyIncreasing};
+ghost use Rattle.cut_rings.specs.Layout.{IsLayout};
 ghost use Rattle.cut_rings.specs.Edges.{are_edges_of, edge_number, edges_in, set_of};
 ghost use Rattle.cut_draws.specs.DeliveryOrder.{are_distinct};
 ghost use Rattle.cut_alerts.specs.Alerted.{is_alerted, alert_list, edges_of, IsAlerted};
+ghost use Rattle.cut_alerts.specs.inside.Suspects.{is_marked, AreSuspects, HasNoAlert};
 
 use crate::{Role, Roles};
-use cut_plan::Dead;
+use cut_plan::{Dead, MOST_NODES};
 use cut_rings::{Edge, Rings};
 use std::alloc::{AllocError, Global};
+
+/// How many processes there may be.
+const PROCESSES: usize = MOST_NODES as usize;
 
 /// Whether an edge is alerted: whether its observer raises an alert about its subject. Observers alert about failed
 /// subjects as in the Rapid paper; what deaf observers, liars and cut links add is defined by this project.
@@ -89,10 +94,51 @@ fn list_alerts(list: &mut Vec<Edge>, rings: &Rings, k: u8, roles: &Roles) -> Res
     ensures { OnOk result (list.new.items ≡ alert_list rings.now roles.now k) }
 {
     list.clear();
-    for subject in 0..rings.nodes() {
+    let nodes = rings.nodes();
+    let suspects = suspects::<PROCESSES>(rings, k, roles);
+    for subject in 0..nodes {
+        if !suspects[usize::from(subject)] {
+            continue;
+        }
         push_alerts(list, rings, k, roles, subject)?;
     }
     Ok(())
+}
+
+/// Which processes alerts may be about: those that are not healthy, and those that such a process observes on one of
+/// the first `k` rings. In a large cluster these are few.
+fn suspects<const N: usize>(rings: &Rings, k: u8, roles: &Roles) -> [bool; N]
+    requires rings { k ≤ length rings.now.positions }
+    requires nodes { length roles.now.roles ≡ rings.now.nodes }
+    requires room { rings.now.nodes ≤ N }
+    ensures many { length result ≡ N }
+    ensures others { (s : ℕ) → s < rings.now.nodes → is_marked result s ≡ false
+        → HasNoAlert rings.now roles.now k s }
+{
+    let mut suspects = [false; N];
+    for process in 0..rings.nodes() {
+        if roles.role(process) == Role::Healthy {
+            continue;
+        }
+        suspect(&mut suspects, rings, k, process);
+    }
+    suspects
+}
+
+/// Marks a process and those that it observes on the first `k` rings.
+fn suspect(suspects: &mut [bool], rings: &Rings, k: u8, process: u16)
+    requires rings { k ≤ length rings.now.positions }
+    requires process { process < rings.now.nodes }
+    requires room { rings.now.nodes ≤ length suspects.old }
+    requires layout { IsLayout rings.now }
+    ensures marked { AreSuspects rings.now k process suspects.new }
+    ensures kept { (s : ℕ) → is_marked suspects.old s ≡ true → is_marked suspects.new s ≡ true }
+    ensures many { length suspects.new ≡ length suspects.old }
+{
+    suspects[usize::from(process)] = true;
+    for ring in 0..k {
+        suspects[usize::from(rings.subject(ring, process))] = true;
+    }
 }
 
 /// Adds the alerted edges of one subject, ring by ring.

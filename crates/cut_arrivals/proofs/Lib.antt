@@ -45,3 +45,4 @@ mod ReceiversKept
 mod Counts
 mod Proposed
 mod Copied
+pub mod Consecutive

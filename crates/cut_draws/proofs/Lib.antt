@@ -9,3 +9,4 @@ pub mod FirstTimes
 pub mod KeyImages
 pub mod Heard
 pub mod AlongOrder
+pub mod PackedProcesses

@@ -94,7 +94,7 @@ packed_moved key k edges copies words is =
     (IsPermutation-map delivery_in (map pack all) words is.moved)
 
 -- a list is sorted by an order on what a function gives, where the function's list is sorted
-sorted-map : {X Y : Type 0} (C : Y → Y → Ordering) (f : X → Y) (xs : List X) → IsSorted (λ a b. C (f a) (f b)) xs
+pub sorted-map : {X Y : Type 0} (C : Y → Y → Ordering) (f : X → Y) (xs : List X) → IsSorted (λ a b. C (f a) (f b)) xs
     → IsSorted C (map f xs)
 sorted-map C f [] up = λ k d low within. absurd (omega arith)
 sorted-map C f (x ∷ xs) up = λ k d low within.

@@ -1,3 +1,7 @@
+ghost use Rattle.std.specs.Prelude.{IfSome};
+ghost use Rattle.std.proofs.Props.{props};
+ghost use Rattle.cut_arrivals.specs.candidates.KeyPlaces.{AreConsecutive};
+
 use crate::candidates::KeyPlace;
 
 /// What makes a ring count for a process in the end. At least one of the two is there.
@@ -16,8 +20,11 @@ pub struct Candidate {
     pub subject: u16,
     /// Where the images of its alerts stand, ring by ring.
     pub heard: Vec<KeyPlace>,
+    /// Where the first of these stands among the images of all blocks, if they stand there one after another.
+    pub consecutive_from: Option<usize>,
     /// The rings that count for it when all alerts have come, ring by ring.
     pub causes: Vec<Cause>,
     /// Whether implicit alerts add some ring.
     pub gains: bool,
+    ghost consecutive: { IfSome consecutive_from (λ first. AreConsecutive first heard.items) } by { Prim.hlevel props },
 }

@@ -1,7 +1,7 @@
-ghost use Rattle.std.specs.Prelude.{◌+◌, ◌^◌, ◌<◌, ◌≤◌, length, IfOk, OnOk, All, IsTrue};
+ghost use Rattle.std.specs.Prelude.{◌≡◌, ◌+◌, ◌^◌, ◌<◌, ◌≤◌, length, IfOk, IfSome, OnOk, All, IsTrue};
 ghost use Rattle.cut_plan.specs.declared.limits.TheConstants.{MOST_NODES};
 ghost use Rattle.cut_rings.specs.Edges.{are_edges_of};
-ghost use Rattle.cut_arrivals.specs.candidates.KeyPlaces.{AreKeyPlaces, BeginsWith};
+ghost use Rattle.cut_arrivals.specs.candidates.KeyPlaces.{AreKeyPlaces, BeginsWith, index_of, AreConsecutive};
 ghost use Rattle.cut_arrivals.specs.candidates.inside.KeyPlaces.{IsKeyPlace, Extends, IsLast};
 
 use cut_rings::Edge;
@@ -14,6 +14,16 @@ pub struct KeyPlace {
     pub block: u16,
     /// The number of the key among the eight of its block.
     pub key: u8,
+}
+
+impl KeyPlace {
+    /// Where the image stands among those of all blocks, eight for each.
+    #[inline]
+    pub(crate) fn index(self) -> usize
+        ensures { result ≡ index_of self }
+    {
+        8 * usize::from(self.block) + usize::from(self.key)
+    }
 }
 
 /// The key places of some edges, and the blocks that these stand in.
@@ -129,4 +139,17 @@ fn is_last(blocks: &[u32], block: u32) -> bool
     ensures { IsTrue result → IsLast blocks.now block }
 {
     !blocks.is_empty() && blocks[blocks.len() - 1] == block
+}
+
+/// Where the first of some images stands among those of all blocks, if they stand there one after another.
+pub(crate) fn consecutive_from(key_places: &[KeyPlace]) -> Option<usize>
+    ensures { IfSome result (λ first. AreConsecutive first key_places.now) }
+{
+    let first = key_places.first()?.index();
+    for (place, key_place) in key_places.iter().enumerate() {
+        if key_place.index().checked_sub(first) != Some(place) {
+            return None;
+        }
+    }
+    Some(first)
 }

@@ -9,7 +9,7 @@ ghost use Rattle.cut_arrivals.specs.candidates.KeyPlaces.{AreKeyPlaces};
 ghost use Rattle.cut_arrivals.specs.candidates.inside.KeyPlaces.{Extends};
 ghost use Rattle.cut_arrivals.specs.candidates.inside.Runs.{first_on};
 
-use crate::candidates::key_places::key_places_among;
+use crate::candidates::key_places::{consecutive_from, key_places_among};
 use crate::candidates::runs::run_len;
 use crate::candidates::{Candidate, Candidates, Cause, KeyPlace};
 use cut_detector::Rule;
@@ -100,9 +100,11 @@ impl<'a> Reported<'a> {
         let heard = key_places_among(alloc, blocks, &[], self.rule.k, edges)?;
         let causes = self.causes(alloc, subject, edges, heard.as_slice())?;
         let gains = is_some_gained(causes.as_slice());
+        let consecutive_from = consecutive_from(heard.as_slice());
         Ok(Candidate {
             subject,
             heard,
+            consecutive_from,
             causes,
             gains,
         })

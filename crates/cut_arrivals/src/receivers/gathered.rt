@@ -1,8 +1,7 @@
 //! Images of the keys of alerts, as they are drawn.
-ghost use Rattle.std.specs.Prelude.{◌≡◌, ℕ, ◌<◌, ◌≤◌, All, map, length, slice_index, vec_capacity};
-ghost use Rattle.cut_arrivals.specs.lanes.Lanes.{lane};
-ghost use Rattle.cut_arrivals.specs.candidates.KeyPlaces.{key_in};
-ghost use Rattle.cut_arrivals.specs.receivers.inside.Times.{reception_in, image_of_key};
+ghost use Rattle.std.specs.Prelude.{◌≡◌, ℕ, ◌<◌, ◌≤◌, All, length, slice_index, vec_capacity};
+ghost use Rattle.cut_arrivals.specs.candidates.KeyPlaces.{key_in, AreConsecutive};
+ghost use Rattle.cut_arrivals.specs.receivers.inside.Times.{reception_in, image_of_key, AreKeyImages};
 
 use crate::candidates::KeyPlace;
 use crate::receivers::images::Images;
@@ -20,6 +19,19 @@ impl Images<'_> {
         self.drawn[usize::from(key_place.block)][usize::from(key_place.key)]
     }
 
+    /// The images that stand in some key places, one after another from this index on among those of all blocks.
+    #[inline(always)]
+    pub fn consecutive(&self, first: usize, key_places: &[KeyPlace]) -> &[u32x4]
+        requires within { All (λ key_place. key_place.block < length self.now.trial.candidates.now.blocks.items)
+            key_places.now }
+        requires keys { All (λ key_place. key_place.key < 8) key_places.now }
+        requires consecutive { AreConsecutive first key_places.now }
+        ensures { AreKeyImages self.now key_places.now result.now }
+    {
+        let images = self.drawn.as_flattened();
+        &images[first..first + key_places.len()]
+    }
+
     /// The images that stand in some key places, in place of what the list held.
     #[inline(always)]
     pub fn gather(&self, values: &mut Vec<u32x4>, key_places: &[KeyPlace])
@@ -27,11 +39,7 @@ impl Images<'_> {
             key_places.now }
         requires keys { All (λ key_place. key_place.key < 8) key_places.now }
         requires room { length key_places.now ≤ vec_capacity values.old }
-        ensures images { (i : ℕ) → i < 4 → lane i values.new.items
-            ≡ map (λ key_place. image_of_key (reception_in self.now i)
-            (key_in self.now.trial.candidates.now.blocks.items key_place))
-            key_places.now }
-        ensures many { length values.new.items ≡ length key_places.now }
+        ensures images { AreKeyImages self.now key_places.now values.new.items }
         ensures capacity { vec_capacity values.new ≡ vec_capacity values.old }
     {
         values.clear();

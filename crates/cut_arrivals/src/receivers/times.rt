@@ -7,7 +7,7 @@ ghost use Rattle.cut_arrivals.specs.proposals.Reception.{lows_at};
 ghost use Rattle.cut_arrivals.specs.candidates.Candidates.{AreCandidatesWithin, cause_in};
 ghost use Rattle.cut_arrivals.specs.receivers.inside.Times.{reception_in, subjects_in, IsCandidateOf, AreReportedAt};
 ghost use Rattle.cut_arrivals.specs.receivers.inside.Times.{AreReportedAtAnd, IsHigh};
-ghost use Rattle.cut_arrivals.specs.receivers.inside.Times.{time_of_cause};
+ghost use Rattle.cut_arrivals.specs.receivers.inside.Times.{time_of_cause, AreKeyImages};
 
 use crate::blocks::NEVER;
 use crate::candidates::{Candidate, Cause};
@@ -29,10 +29,28 @@ impl Images<'_> {
         ensures high { candidate.now.gains ≡ false → IsHigh self.now candidate.now.subject result.1 }
         ensures capacity { vec_capacity values.new ≡ vec_capacity values.old }
     {
+        let key_places = candidate.heard.as_slice();
+        match candidate.consecutive_from {
+            Some(first) => self.times_by(candidate, self.consecutive(first, key_places)),
+            None => {
+                self.gather(values, key_places);
+                self.times_by(candidate, values.as_slice())
+            }
+        }
+    }
+
+    /// The same, by the images of the candidate's alerts.
+    #[inline(always)]
+    fn times_by(&self, candidate: &Candidate, heard: &[u32x4]) -> (u32x4, u32x4)
+        requires candidate { IsCandidateOf self.now.trial candidate.now }
+        requires heard { AreKeyImages self.now candidate.now.heard.items heard.now }
+        ensures low { (i : ℕ) → i < 4
+            → slice_index result.0 i ≡ lows_at (reception_in self.now i) never candidate.now.subject }
+        ensures high { candidate.now.gains ≡ false → IsHigh self.now candidate.now.subject result.1 }
+    {
         laws::images_stand_in_blocks();
         laws::few_values_give_lows_and_highs();
-        self.gather(values, candidate.heard.as_slice());
-        ranks(self.trial.rule, values.as_slice())
+        ranks(self.trial.rule, heard)
     }
 
     /// From when on a candidate is stable with the rings that it gains, by the lows of all candidates and its own.

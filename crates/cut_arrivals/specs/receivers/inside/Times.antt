@@ -7,6 +7,8 @@ use Rattle.cut_arrivals.specs.blocks.Images.{never, eight, row_of, least_image}
 use Rattle.cut_arrivals.specs.lanes.Lanes.{lane}
 use Rattle.cut_arrivals.specs.proposals.Reception.{Reception, lows_at, highs_at}
 use Rattle.cut_arrivals.specs.declared.candidates.candidate.Candidate.{Candidate}
+use Rattle.cut_arrivals.specs.declared.candidates.key_places.KeyPlace.{KeyPlace}
+use Rattle.cut_arrivals.specs.candidates.KeyPlaces.{key_in}
 use Rattle.cut_arrivals.specs.candidates.Candidates.{IsCandidate, subjects_of}
 use Rattle.cut_arrivals.specs.declared.receivers.trial.Trial.{Trial}
 use Rattle.cut_arrivals.specs.declared.receivers.images.Images.{Images}
@@ -23,6 +25,12 @@ subjects_in images = subjects_of images.trial.candidates.now.candidates.items
 -- the least image over the copies of a key of a block
 abbrev pub image_of_key : Reception → ℕ × ℕ → ℕ
 image_of_key x key = least_image x.source x.copies key.0 key.1 (row_of 0 x.receiver)
+
+-- the images in some key places, those of each receiver in its lane
+pub record AreKeyImages (images : Images) (key_places : List KeyPlace) (xs : List (List ℕ)) : Type 0 where
+  pub lanes : (i : ℕ) → i < 4 → lane i xs ≡ map (λ key_place. image_of_key (reception_in images i)
+      (key_in images.trial.candidates.now.blocks.items key_place)) key_places
+  pub many : length xs ≡ length key_places
 
 -- the image of a key that may not be there
 abbrev pub image_if : Reception → Option (ℕ × ℕ) → ℕ

@@ -1,4 +1,4 @@
-use Rattle.std.proofs.Common.{◌≡◌, ◌∙◌, ◌++◌, ◌∷◌, [], ◌+◌, ◌*◌, ℕ, List, map, ap, sym, arith}
+use Rattle.std.proofs.Common.{◌≡◌, ◌∙◌, ◌++◌, ◌∷◌, [], ◌+◌, ℕ, List, map, ap, sym, arith}
 use Rattle.std.specs.List.{range_with_len}
 use Rattle.std.proofs.lemmas.List.FromFn.{map-range_with_len_more}
 use Rattle.cut_draws.specs.Source.{key_at}
@@ -17,12 +17,11 @@ pub loop-process-preserved : goal.loop-process-preserved
 loop-process-preserved c =
     let process = c.loop-process.process in
     record {
-      same = c.key-key.ensures.same ∙ c.loop-process.invariant.same;
+      same = c.process_key-key.ensures.same ∙ c.loop-process.invariant.same;
       keys =
-          keys_more (λ p. key_at c.args.self.now (process_place p)) process c.key-key.result c.loop-process.keyed.items
+          keys_more (λ p. key_at c.args.self.now (process_place p)) process c.process_key-key.result c.loop-process.keyed.items
           c.push.new.self.items
           c.in_ok-push.ensures.items
-          (c.key-key.ensures.value ∙ ap (λ d. key_at d (2 * c.from-in-loop-process.result))
-          c.loop-process.invariant.same ∙ ap (λ p. key_at c.args.self.now (2 * p)) c.from-in-loop-process.ensures)
+          (c.process_key-key.ensures.value ∙ ap (λ d. key_at d (process_place process)) c.loop-process.invariant.same)
           c.loop-process.invariant.keys;
     }
