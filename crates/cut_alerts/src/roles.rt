@@ -88,7 +88,8 @@ impl Roles {
         let n = rings.nodes();
         draws.order_processes(order, n)?;
         self.roles.resize(usize::from(n), Role::Healthy)?;
-        for rank in 0..n {
+        self.roles.fill(Role::Healthy);
+        for rank in 0..n.min(cell.f + plan.liars() + plan.links()) {
             let process = order.get(usize::from(rank));
             self.roles[usize::from(process)] = ranked_role(plan, cell, rings, process, rank);
         }

@@ -7,7 +7,7 @@ use Rattle.cut_alerts.specs.Assignment.{Assignment}
 use Rattle.cut_alerts.specs.Drawn.{ranked_role}
 use Rattle.cut_alerts.specs.declared.role.Role.{Role}
 use Rattle.cut_alerts.specs.declared.role.Role.TheVariants.{Healthy}
-use Rattle.cut_alerts.proofs.RankLemmas.{roles_more, roles_all}
+use Rattle.cut_alerts.proofs.RankLemmas.{roles_more, fewer_left, roles_all, ranked_late}
 use Rattle.cut_alerts.proofs.roles.Roles.draw.Goals as goal
 
 pub loop-rank-preserved : goal.loop-rank-preserved
@@ -29,6 +29,8 @@ loop-rank-preserved c =
       set = roles_more c.args.draws.now c.nodes-n.result order c.in_ok-order_processes.ensures.order role Healthy rank
           process c.ranked_role.result roles
           (omega arith) at own c.loop-rank.invariant.long c.loop-rank.invariant.set;
+      rest = fewer_left c.args.draws.now c.nodes-n.result order c.in_ok-order_processes.ensures.order Healthy rank
+          process c.ranked_role.result roles (omega arith) at c.loop-rank.invariant.rest;
     }
 
 pub returns-clause-drawn : goal.returns-clause-drawn
@@ -36,8 +38,11 @@ returns-clause-drawn c =
     let role : ℕ → ℕ → Role = λ p i. ranked_role c.args.plan.now c.args.cell.f c.args.rings.now p i in
     let by_n : ℕ → List Role = λ n. map (λ p. role p (process_rank c.args.draws.now n p)) (range_with_len 0 n) in
     let all = roles_all c.args.draws.now c.nodes-n.result c.order_processes.new.order
-    c.in_ok-order_processes.ensures.order role Healthy c.loop-rank.self-inside.roles.items
-    c.loop-rank.invariant.long (λ p below early. c.loop-rank.invariant.set p below (omega arith)) in
+    c.in_ok-order_processes.ensures.order role Healthy c.loop-rank.rank c.loop-rank.self-inside.roles.items
+    c.loop-rank.invariant.long
+    (λ p rank late below. ranked_late c.args.plan.now c.args.cell.f c.args.rings.now p rank
+    (omega (arith, late, below, c.loop-rank-test.false, c.liars.ensures.value, c.links.ensures.value)))
+    c.loop-rank.invariant.set c.loop-rank.invariant.rest in
     let are : c.loop-rank.self-inside.roles.items ≡ by_n c.args.plan.now.nodes = all
     ∙ ap by_n (c.nodes-n.ensures.value ∙ c.requires.nodes) in
     ap (λ roles. (let a : Assignment = record { roles = roles; dead = c.dead-self-inside.result } in a)) are
