@@ -1,8 +1,7 @@
 """bench/run [PROGRAM] [PLAN..] [--instructions] [--write]: what studies cost.
 
 For each plan, those of bench/plans where none is given, the best of three runs of the program: processor seconds, trials and
-keys a second, and peak memory. A key is drawn for each copy of each alert at each receiver; for noisy plans their number is an
-estimate. Then, for `examples/rapid_study.json`, the best of three by 1, 2 and 4 workers: seconds on the clock, and how many
+keys a second. A key is drawn for each copy of each alert at each receiver; for noisy plans their number is an estimate. Then, for `examples/rapid_study.json`, the best of three by 1, 2 and 4 workers: seconds on the clock, and how many
 times as fast that is as by one. Seconds are noise on most machines, so they are compared with nothing.
 
 At the end the instructions of each plan of bench/counted, by callgrind where valgrind is installed, beside those of
@@ -31,7 +30,6 @@ TOLERANCE = 0.03
 
 class Cost(NamedTuple):
     seconds: float  # of a processor
-    memory: float  # in MiB, at the peak
     clock: float
 
 
@@ -54,14 +52,14 @@ def cost_of(command: list[str], plan: Path) -> tuple[Cost, bytes]:
         if child.returncode:
             sys.exit(f"{command[0]} ended with {child.returncode}")
         table.seek(0)
-        return Cost(use.ru_utime + use.ru_stime, use.ru_maxrss / 1024, time.monotonic() - begun), table.read()
+        return Cost(use.ru_utime + use.ru_stime, time.monotonic() - begun), table.read()
 
 
 def best_cost(command: list[str], plan: Path) -> tuple[Cost, bytes]:
-    """The least seconds of three runs and the most memory, and the table."""
+    """The least seconds of three runs, and the table."""
     costs, tables = zip(*(cost_of(command, plan) for _ in range(3)))
-    seconds, memory, clock = zip(*costs)
-    return Cost(min(seconds), max(memory), min(clock)), tables[0]
+    seconds, clock = zip(*costs)
+    return Cost(min(seconds), min(clock)), tables[0]
 
 
 def instructions(program: Path, plan: Path) -> int:
@@ -101,17 +99,17 @@ def compare(program: Path, is_written: bool) -> int:
 
 def print_costs(program: Path, plans: list[Path]) -> None:
     """Prints the costs of plans by one worker, and those of one plan by several."""
-    print(f"{'plan':16}{'seconds':>9}{'trials/s':>10}{'keys/s':>12}{'MiB':>8}")
+    print(f"{'plan':16}{'seconds':>9}{'trials/s':>10}{'keys/s':>12}")
     for path in plans:
         plan = reference.plan_of(path.read_bytes())
         cost, _ = best_cost([str(program), "run"], path)
         rates = f"{trials_of(plan) / cost.seconds:10.0f}{keys_of(plan) / cost.seconds:12.0f}"
-        print(f"{path.name:16}{cost.seconds:9.3f}{rates}{cost.memory:8.1f}")
+        print(f"{path.name:16}{cost.seconds:9.3f}{rates}")
     path = ROOT / "examples" / "rapid_study.json"
-    print(f"\n{path.name} by workers\n{'workers':>8}{'seconds':>9}{'times':>7}{'MiB':>8}")
+    print(f"\n{path.name} by workers\n{'workers':>8}{'seconds':>9}{'times':>7}")
     costs = {it: best_cost([str(program), "run", "--workers", str(it)], path)[0] for it in (1, 2, 4)}
     for workers, cost in costs.items():
-        print(f"{workers:8}{cost.clock:9.3f}{costs[1].clock / cost.clock:7.2f}{cost.memory:8.1f}")
+        print(f"{workers:8}{cost.clock:9.3f}{costs[1].clock / cost.clock:7.2f}")
 
 
 def main() -> int:
