@@ -1,6 +1,6 @@
 ghost use Rattle.std.specs.Prelude.{◌≡◌, ◌^◌, ◌<◌, ◌≤◌, length, IfOk};
 
-use crate::{Sent, Wire, WireFault, send_all};
+use crate::{Sent, Wire, WireFault};
 
 /// A wire that is borrowed, with a count of the bytes that were sent over it. At 2^64 - 1 the count stays.
 #[derive(Drop)]
@@ -50,15 +50,16 @@ impl<'a, W: Wire> CountingWriter<'a, W> {
     pub fn send(&mut self, bytes: &[u8]) -> Result<(), Sent>
         ensures { Sends result bytes.now (sending W.log self.old) (sending W.log self.new) }
     {
-        match send_all(self.wire, bytes) {
-            Ok(()) => {
-                self.sent = self.sent.saturating_add(bytes.len() as u64);
-                Ok(())
-            }
-            Err(fault) => {
-                self.sent = self.sent.saturating_add(fault.sent);
-                Err(Sent { sent: self.sent })
+        let mut taken = 0;
+        while taken < bytes.len() {
+            match self.wire.write(&bytes[taken..]) {
+                Ok(n) => {
+                    taken += n;
+                    self.sent = self.sent.saturating_add(n as u64);
+                }
+                Err(_) => return Err(Sent { sent: self.sent }),
             }
         }
+        Ok(())
     }
 }

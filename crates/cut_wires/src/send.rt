@@ -1,6 +1,6 @@
 ghost use Rattle.cut_wires.specs.Log.{SendsAll};
 
-use crate::Wire;
+use crate::{CountingWriter, Wire};
 use thiserror::Error;
 
 /// A write that failed, or took nothing, after `sent` bytes.
@@ -15,12 +15,5 @@ pub struct Sent {
 pub fn send_all<W: Wire>(wire: &mut W, bytes: &[u8]) -> Result<(), Sent>
     ensures { SendsAll result bytes.now (W.log wire.old) (W.log wire.new) }
 {
-    let mut sent = 0;
-    while sent < bytes.len() {
-        match wire.write(&bytes[sent..]) {
-            Ok(n) => sent += n,
-            Err(_) => return Err(Sent { sent: sent as u64 }),
-        }
-    }
-    Ok(())
+    CountingWriter::new(wire).send(bytes)
 }
