@@ -5,13 +5,15 @@ ghost use Rattle.cut_jobs.specs.Paths.{paths_of};
 
 use crate::Devices;
 use crate::joins::run_join;
-use crate::studies::{run_share, run_study};
+use crate::studies::{run_with_progress, share_of, share_with_progress, study_of};
 use cut_command_line::{Job, ServeOptions};
 use cut_commands::{
     CliFault, MigratedFiles, PlanSource, ask, canonical_from, check_from, explain_from, migrate,
-    status,
+    run, status,
 };
 use cut_files::Files;
+use cut_machines::share;
+use cut_outcome::OpenGate;
 use cut_server::{Capacity, SocketServer, serve_at};
 use cut_sockets::Sockets;
 use cut_wires::Wire;
@@ -51,8 +53,20 @@ where
 {
     let alloc = system.host.alloc();
     match job {
-        Job::Run(options) => run_study(&mut devices.files, system, &options, wire, errors),
-        Job::Share(options) => run_share(&mut devices.files, system, &options, wire, errors),
+        Job::Run(options) if options.progress => {
+            run_with_progress(&mut devices.files, system, &options, wire, errors)
+        }
+        Job::Run(options) => {
+            let study = study_of(&options, &OpenGate);
+            run(&mut devices.files, system.rt, alloc, wire, study)
+        }
+        Job::Share(options) if options.progress => {
+            share_with_progress(&mut devices.files, system, &options, wire, errors)
+        }
+        Job::Share(options) => {
+            let work = share_of(&options, &OpenGate);
+            share(&mut devices.files, system.rt, alloc, wire, work)
+        }
         Job::Join(options) => run_join(&mut devices.files, alloc, &options, wire, errors),
         Job::Check { plan } => check_from(alloc, PlanSource::of(&devices.files, plan), wire),
         Job::Explain { plan } => {

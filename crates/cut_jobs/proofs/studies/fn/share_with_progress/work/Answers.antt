@@ -1,5 +1,5 @@
 use Rattle.cut_jobs.proofs.ShareEnds.{share_ends}
-use Rattle.cut_jobs.proofs.studies.fn.run_share.work.Goals as goal
+use Rattle.cut_jobs.proofs.studies.fn.share_with_progress.work.Goals as goal
 
 pub returns : goal.returns
 returns g c =
