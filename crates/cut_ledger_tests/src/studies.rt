@@ -44,10 +44,18 @@ pub(crate) fn result_of(alloc: Global, plan: &Plan, piece: Piece) -> Result<Piec
 
 /// The piece that is written as its first trial and how many there are.
 pub(crate) fn piece_of(text: &str) -> Piece {
-    let (first, count) = text.split_once(' ').unwrap_or((text, ""));
-    let first = first.parse::<u32>().unwrap_or(u32::MAX);
-    let count = count.parse::<u32>().unwrap_or(0);
-    Piece { first, count }
+    match text.split_once(' ') {
+        Some((first, count)) => Piece {
+            first: number(first),
+            count: number(count),
+        },
+        None => Piece { first: 0, count: 0 },
+    }
+}
+
+/// A number as it is written, 0 where it is none.
+fn number(text: &str) -> u32 {
+    text.parse::<u32>().unwrap_or(0)
 }
 
 /// The slip that is written as its piece and its totals in their order.
