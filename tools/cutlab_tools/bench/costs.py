@@ -1,8 +1,9 @@
 """bench/run [PROGRAM] [PLAN..] [--instructions] [--write]: what studies cost.
 
 For each plan, those of bench/plans where none is given, the best of three runs of the program: processor seconds, trials and
-keys a second. A key is drawn for each copy of each alert at each receiver; for noisy plans their number is an estimate. Then, for `examples/rapid_study.json`, the best of three by 1, 2 and 4 workers: seconds on the clock, and how many
-times as fast that is as by one. Seconds are noise on most machines, so they are compared with nothing.
+keys a second. A key is drawn for each copy of each alert at each receiver; for noisy plans their number is an estimate. Then, for
+`examples/rapid_study.json`, the best of three by 1, 2 and 4 workers: seconds on the clock, and how many times as fast that is as
+by one. Seconds are noise on most machines, so they are compared with nothing.
 
 At the end the instructions of each plan of bench/counted, by callgrind where valgrind is installed, beside those of
 bench/figures.json, which are of the proved program: what became slower by more than 3 % is said, and the status is then 1.
