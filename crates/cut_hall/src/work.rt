@@ -208,7 +208,7 @@ impl<D: Disk + Drop, M: CallLedger, K: CallLedger> Hall<D, M, K> {
         }
         let mut is_made = shared.making.lock(rt);
         if !*is_made {
-            let plan = slot.lock(rt).plan(alloc)?;
+            let plan = slot.lock(rt).plan(alloc).ok()??;
             let _ = shared.input.set(rt, StudyInput::new(alloc, plan)?);
             *is_made = true;
         }

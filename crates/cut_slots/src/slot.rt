@@ -1,7 +1,7 @@
 ghost use Rattle.std.proofs.Props.{props};
 ghost use Rattle.std.specs.Prelude.{◌≡◌, ◌+◌, ◌<◌, ◌≤◌, ◌&&◌, ◌↔◌, true, false, not, [], length, take};
 ghost use Rattle.std.specs.Prelude.{Some, None, is_some, IsTrue, IfOk, IfSome, IfNone, OnOk, OnErr, IfErr, IsErrOf};
-ghost use Rattle.std.specs.Prelude.{replicate, slice_index_or, slice_set};
+ghost use Rattle.std.specs.Prelude.{◌⊎◌, MatchOption, replicate, slice_index_or, slice_set};
 ghost use Rattle.std.specs.List.{list_any};
 ghost use Rattle.cut_ledger.specs.declared.lines.line.TheConstants.{LONGEST_LINE};
 ghost use Rattle.cut_plan.specs.Cells.{cells_of};
@@ -142,6 +142,7 @@ impl<D: Disk + Drop, K: CallLedger> Slot<D, K> {
     ) -> Result<(), CallFault>
         requires { made.old.parts ≡ 1 }
         ensures taken { TakesLoss result piece self.old.book self.new.book }
+        ensures full { IsErrOf result CallFault.Full → C.may_be_full counter.now }
         ensures stays { (self.new.stopped ≡ self.old.stopped) × (self.new.given ≡ self.old.given) }
         ensures calls { calls_in self.new.book ≡ calls_in self.old.book + losses_of result }
         ensures made { made.new.amount ≡ made.old.amount + losses_of result }
@@ -179,6 +180,8 @@ impl<D: Disk + Drop, K: CallLedger> Slot<D, K> {
         ensures given { GivesLine result asked.entry.cell self.old.book self.new.book }
         ensures answers { AnswersLine result asked.entry.opened.now asked.entry.cell self.old.book }
         ensures waits { IfOk result (λ found. IfNone found (self.old.stopped ≡ false)) }
+        ensures stopped { IsErrOf result NextRowFault.Stopped
+            → (self.old.stopped ≡ true) ⊎ C.may_be_full counter.now }
         ensures remembered { self.new.given.items ≡ remembered_after result asked.entry.cell self.old.given.items }
         ensures stays { self.new.stopped ≡ self.old.stopped }
         ensures calls { calls_in self.new.book ≡ calls_in self.old.book + lines_of result }
@@ -219,6 +222,8 @@ impl<D: Disk + Drop, K: CallLedger> Slot<D, K> {
     ) -> Result<bool, NextRowFault>
         ensures answers { CanGive result asked.entry.opened.now asked.entry.cell self.now.book }
         ensures waits { IfOk result (λ is_done. is_done ≡ false → self.now.stopped ≡ false) }
+        ensures stopped { IsErrOf result NextRowFault.Stopped
+            → (self.now.stopped ≡ true) ⊎ C.may_be_full counter.now }
     {
         let Asked { opened, cell } = asked;
         let Some(book) = &self.book else {
@@ -396,13 +401,13 @@ impl<D: Disk + Drop, K: CallLedger> Slot<D, K> {
         self.book.is_none() && !self.stopped
     }
 
-    /// A copy of the study's plan, if there is a study, and memory for it.
-    pub fn plan(&self, alloc: Global) -> Option<Plan>
-        ensures { IfSome result (λ plan. HasPlan self.now.book plan) }
+    /// A copy of the study's plan, if there is a study.
+    pub fn plan(&self, alloc: Global) -> Result<Option<Plan>, AllocError>
+        ensures { IfOk result (λ found. MatchOption found (self.now.book ≡ None) (HasPlan self.now.book)) }
     {
         match &self.book {
-            Some(book) => book.ledger().plan().try_clone(alloc).ok(),
-            None => None,
+            Some(book) => Ok(Some(book.ledger().plan().try_clone(alloc)?)),
+            None => Ok(None),
         }
     }
 

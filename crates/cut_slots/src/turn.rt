@@ -1,4 +1,4 @@
-ghost use Rattle.std.specs.Prelude.{◌≡◌, ◌≤◌};
+ghost use Rattle.std.specs.Prelude.{◌≡◌, ◌≤◌, IsErrOf};
 ghost use Rattle.cut_board.specs.Names.{board_id, board_of, studies_of, view_of};
 ghost use Rattle.cut_slots.specs.Turn.{next_after, DrawsPiece, TakesDrawn, CountsTrials, CountsAccepted};
 
@@ -46,6 +46,7 @@ impl<D: Disk + Drop, K: CallLedger> Slot<D, K> {
     ) -> Result<(), Next>
         requires { pass.old.hall ≡ board_id board.now }
         ensures taken { TakesDrawn result drawn.number offered.now self.old.book self.new.book }
+        ensures full { IsErrOf result Next.Nothing → C.may_be_full counter.now }
         ensures stays { (self.new.stopped ≡ self.old.stopped) × (self.new.given ≡ self.old.given) }
         ensures own { pass.new.hall ≡ pass.old.hall }
         ensures made { pass.old.made ≤ pass.new.made }
