@@ -1,6 +1,0 @@
-use Rattle.std.proofs.Common.{◌≡◌}
-use Rattle.cut_hall_tests.proofs.storms.slots_of.Given as goal
-
--- the pass is still the hall's
-abbrev pub invariant-loop-number : goal.invariant-loop-number
-invariant-loop-number g l = l.pass.hall ≡ l.fn.pass.hall

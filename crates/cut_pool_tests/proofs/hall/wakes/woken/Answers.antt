@@ -1,0 +1,11 @@
+use denote.Param.Send.{IsSend, sendable}
+use Rattle.std.proofs.Crossing.{crosses}
+use Rattle.cut_disks.specs.contracts.faulty_disk.FaultyDisk as faulty
+use Rattle.cut_hall.proofs.Crossing.{hall_sync}
+use Rattle.cut_pool_tests.proofs.hall.wakes.woken.Goals as goal
+
+faulty_send : IsSend faulty.the_row
+faulty_send = search (sendable, crosses) depth 100
+
+pub wait_beside-requires-sync-H : goal.wait_beside-requires-sync-H
+wait_beside-requires-sync-H g c κs within = search (sendable, hall_sync, faulty_send) depth 40
